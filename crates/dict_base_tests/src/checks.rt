@@ -1,5 +1,4 @@
 //! Assertions, and what adds to a list, each a function of its own, so that the proof of a test has one step for it.
-use std::alloc::AllocError;
 use std::fmt::Debug;
 use std::process::Abort;
 
@@ -18,11 +17,7 @@ pub(crate) fn holds(test: &impl Abort, is_so: bool, of: &str) {
     assert!(test; is_so, "of {of:?}");
 }
 
-/// Adds what was made, if it was.
-pub(crate) fn push<T: Drop>(
-    list: &mut Vec<T>,
-    made: Result<T, AllocError>,
-) -> Result<(), AllocError> {
-    list.push(made?)?;
-    Ok(())
+/// Adds what was made.
+pub(crate) fn push<T: Drop>(test: &impl Abort, list: &mut Vec<T>, made: T) {
+    list.push(made).expect(test, "memory");
 }

@@ -1,9 +1,8 @@
 //! Keys at every edge, and what is selected beside the filter of a whole list.
 use crate::checks::{holds, push, same_text};
 use dict_match::{Key, Strategy, key_of, matches, words};
-use std::alloc::{AllocError, Global};
+use std::alloc::Global;
 use std::process::Abort;
-use std::test::Fail;
 use store_derived::{Selection, is_kept, is_tested, select};
 
 /// The key of a headword, and its octets in reverse order.
@@ -13,11 +12,11 @@ struct Derived {
     reversed: Vec<u8>,
 }
 
-fn derive(alloc: Global, headword: &str) -> Result<Derived, AllocError> {
-    let key = key_of(alloc, headword)?;
-    let mut reversed = key.as_bytes().to_vec(alloc)?;
+fn derive(rt: &impl Abort, alloc: Global, headword: &str) -> Derived {
+    let key = key_of(alloc, headword).expect(rt, "a key");
+    let mut reversed = key.as_bytes().to_vec(alloc).expect(rt, "memory");
     reversed.reverse();
-    Ok(Derived { key, reversed })
+    Derived { key, reversed }
 }
 
 static EDGES: [&str; 25] = [
@@ -85,29 +84,29 @@ fn is_found(strategy: Strategy, query: &[u8], selection: &Selection, derived: &D
 
 /// Whether the text is found by its selection in the same headwords of the list as by the strategy.
 fn finds_the_same(
+    rt: &impl Abort,
     alloc: Global,
     strategy: Strategy,
     text: &str,
     list: &[Derived],
-) -> Result<bool, AllocError> {
-    let query = key_of(alloc, text)?;
-    let selection = select(alloc, strategy, query.as_bytes())?;
+) -> bool {
+    let query = key_of(alloc, text).expect(rt, "a key");
+    let selection = select(alloc, strategy, query.as_bytes()).expect(rt, "a selection");
     for derived in list {
         let found = is_found(strategy, query.as_bytes(), &selection, derived);
         if found != matches(strategy, query.as_bytes(), derived.key.as_bytes()) {
-            return Ok(false);
+            return false;
         }
     }
-    Ok(true)
+    true
 }
 
 /// Each strategy finds the text so.
-fn look_up(rt: &impl Abort, alloc: Global, text: &str, list: &[Derived]) -> Result<(), AllocError> {
+fn look_up(rt: &impl Abort, alloc: Global, text: &str, list: &[Derived]) {
     for strategy in &Strategy::ALL {
-        let is_so = finds_the_same(alloc, *strategy, text, list)?;
+        let is_so = finds_the_same(rt, alloc, *strategy, text, list);
         holds(rt, is_so, strategy.name());
     }
-    Ok(())
 }
 
 static SELECTED: [(Strategy, &[u8], &str); 8] = [
@@ -142,9 +141,9 @@ static SELECTED: [(Strategy, &[u8], &str); 8] = [
     (Strategy::Exact, b"", "Nothing"),
 ];
 
-fn told_selection(alloc: Global, strategy: Strategy, query: &[u8]) -> Result<String, AllocError> {
-    let selection = select(alloc, strategy, query)?;
-    let told = format!(in alloc; "{selection:?}");
+fn told_selection(rt: &impl Abort, alloc: Global, strategy: Strategy, query: &[u8]) -> String {
+    let selection = select(alloc, strategy, query).expect(rt, "a selection");
+    let told = format!(in alloc; "{selection:?}").expect(rt, "memory");
     drop(selection);
     told
 }
@@ -153,16 +152,15 @@ fn told_selection(alloc: Global, strategy: Strategy, query: &[u8]) -> Result<Str
 static KEPT: [(&[u8], bool); 3] = [(b"abc", true), (b"ab\xbf", true), (b"ab\xc0", false)];
 
 #[test]
-fn ranges_and_runs_at_their_ends(rt: HostRuntime) -> Result<(), Fail> {
+fn ranges_and_runs_at_their_ends(rt: HostRuntime) {
     for (strategy, query, wanted) in &SELECTED {
-        let told = told_selection(rt.alloc(), *strategy, query)?;
+        let told = told_selection(&rt, rt.alloc(), *strategy, query);
         same_text(&rt, told.as_str(), *wanted);
         drop(told);
     }
     for (run, kept) in &KEPT {
         holds(&rt, is_kept(run) == *kept, "a run");
     }
-    Ok(())
 }
 
 /// The next number of a fixed row of numbers.
@@ -174,10 +172,10 @@ fn draw(state: &mut u64) -> u64 {
 }
 
 /// Makes the text a headword of one to three short words over few letters, so that many have parts in common.
-fn draw_headword(text: &mut String, state: &mut u64) -> Result<(), AllocError> {
+fn draw_headword(rt: &impl Abort, text: &mut String, state: &mut u64) {
     text.clear();
     for _ in 0..1 + draw(state) % 3 {
-        text.push(' ')?;
+        text.push(' ').expect(rt, "memory");
         for _ in 0..1 + draw(state) % 6 {
             let letter = match draw(state) % 6 {
                 0 => 'a',
@@ -187,43 +185,35 @@ fn draw_headword(text: &mut String, state: &mut u64) -> Result<(), AllocError> {
                 4 => 'é',
                 _ => 'e',
             };
-            text.push(letter)?;
+            text.push(letter).expect(rt, "memory");
         }
     }
-    Ok(())
 }
 
 /// Over a list of the edges, and then over one with 10,000 headwords more.
-fn look_up_all(
-    rt: &impl Abort,
-    alloc: Global,
-    list: &mut Vec<Derived>,
-    text: &mut String,
-) -> Result<(), AllocError> {
+fn look_up_all(rt: &impl Abort, alloc: Global, list: &mut Vec<Derived>, text: &mut String) {
     for edge in &EDGES {
-        push(list, derive(alloc, edge))?;
+        push(rt, list, derive(rt, alloc, edge));
     }
     for edge in &EDGES {
-        look_up(rt, alloc, edge, list.as_slice())?;
+        look_up(rt, alloc, edge, list.as_slice());
     }
     let mut state = 23;
     for _ in 0..10_000 {
-        draw_headword(text, &mut state)?;
-        push(list, derive(alloc, text.as_str()))?;
+        draw_headword(rt, text, &mut state);
+        push(rt, list, derive(rt, alloc, text.as_str()));
     }
     for _ in 0..20 {
-        draw_headword(text, &mut state)?;
-        look_up(rt, alloc, text.as_str(), list.as_slice())?;
+        draw_headword(rt, text, &mut state);
+        look_up(rt, alloc, text.as_str(), list.as_slice());
     }
-    Ok(())
 }
 
 #[test]
-fn selections_find_what_the_whole_list_has(rt: HostRuntime) -> Result<(), Fail> {
+fn selections_find_what_the_whole_list_has(rt: HostRuntime) {
     let mut list = Vec::new(rt.alloc());
     let mut text = String::new(rt.alloc());
-    let end = look_up_all(&rt, rt.alloc(), &mut list, &mut text);
+    look_up_all(&rt, rt.alloc(), &mut list, &mut text);
     drop(text);
     drop(list);
-    Ok(end?)
 }

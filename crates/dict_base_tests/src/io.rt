@@ -3,7 +3,6 @@
 use crate::checks::same;
 use dict_proto::{LimitedSink, OverRead, OverWrite, Sink, SinkFault, Source, SourceFault, put_all};
 use std::io::{Error, ErrorKind, Read, Result as IoResult, Write};
-use std::test::Fail;
 
 // A writer that takes one octet a call, and is interrupted once after some.
 #[derive(Drop)]
@@ -58,15 +57,14 @@ static PUT: [(&[u8], bool, &[u8]); 4] = [
 ];
 
 #[test]
-fn a_sink_of_limited_room(rt: HostRuntime) -> Result<(), Fail> {
-    let mut sink = LimitedSink::new(rt.alloc(), 3)?;
+fn a_sink_of_limited_room(rt: HostRuntime) {
+    let mut sink = LimitedSink::new(rt.alloc(), 3).expect(&rt, "a sink");
     for (octets, is_taken, taken) in &PUT {
         let wanted = if *is_taken { Ok(()) } else { Err(SinkFault) };
         same(&rt, &sink.put(octets), &wanted);
         same(&rt, &sink.taken(), taken);
     }
     drop(sink);
-    Ok(())
 }
 
 #[test]
@@ -83,7 +81,7 @@ fn sources_over_readers(rt: HostRuntime) {
 }
 
 #[test]
-fn parts_in_order(rt: HostRuntime) -> Result<(), Fail> {
+fn parts_in_order(rt: HostRuntime) {
     let mut sink = OverWrite::new(Vec::new(rt.alloc()));
     let put = put_all(&mut sink, &[b"a", b"", b"bc"]);
     let octets = sink.into_inner();
@@ -91,5 +89,4 @@ fn parts_in_order(rt: HostRuntime) -> Result<(), Fail> {
     drop(octets);
     same(&rt, &put, &Ok(()));
     same(&rt, &is_so, &true);
-    Ok(())
 }

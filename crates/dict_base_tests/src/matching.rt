@@ -2,8 +2,8 @@
 
 use crate::checks::holds;
 use dict_match::{Strategy, key_of, matches, reserved_key_of, words};
-use std::alloc::{AllocError, Global};
-use std::test::Fail;
+use std::alloc::Global;
+use std::process::Abort;
 
 const ALL_SEVEN: &str = "exact prefix suffix substring word first last";
 
@@ -233,14 +233,14 @@ static KEYS: [(&str, &str, &str); 55] = [
 ];
 
 // Whether these are the two keys of a text.
-fn has_keys(alloc: Global, text: &str, reserved: &str, key: &str) -> Result<bool, AllocError> {
-    let found = reserved_key_of(alloc, text)?;
+fn has_keys(rt: &impl Abort, alloc: Global, text: &str, reserved: &str, key: &str) -> bool {
+    let found = reserved_key_of(alloc, text).expect(rt, "a key of the first version");
     let is_reserved = found.as_bytes() == reserved.as_bytes();
     drop(found);
-    let found = key_of(alloc, text)?;
+    let found = key_of(alloc, text).expect(rt, "a key");
     let is_key = found.as_bytes() == key.as_bytes();
     drop(found);
-    Ok(is_reserved && is_key)
+    is_reserved && is_key
 }
 
 // A text, and its words.
@@ -264,13 +264,12 @@ fn has_words(text: &[u8], wanted: &[&[u8]]) -> bool {
 }
 
 #[test]
-fn keys_and_words(rt: HostRuntime) -> Result<(), Fail> {
+fn keys_and_words(rt: HostRuntime) {
     for (text, reserved, key) in &KEYS {
-        holds(&rt, has_keys(rt.alloc(), text, reserved, key)?, text);
+        holds(&rt, has_keys(&rt, rt.alloc(), text, reserved, key), text);
     }
     for (text, wanted) in &WORDS {
         holds(&rt, has_words(text, wanted), "words");
         holds(&rt, words(text).count() == wanted.len(), "count");
     }
-    Ok(())
 }

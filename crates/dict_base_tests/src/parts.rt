@@ -1,17 +1,16 @@
 //! Parts of files of lengths at the borders: split and joined.
 
 use crate::checks::holds;
-use std::alloc::{AllocError, Global};
+use std::alloc::Global;
 use std::process::Abort;
-use std::test::Fail;
 use store_rows::{Joiner, PART_SIZE, Refused, part};
 
-fn file(alloc: Global, length: usize) -> Result<Vec<u8>, AllocError> {
+fn file(rt: &impl Abort, alloc: Global, length: usize) -> Vec<u8> {
     let mut octets = Vec::new(alloc);
     for place in 0..length {
-        octets.push((place % 251) as u8)?;
+        octets.push((place % 251) as u8).expect(rt, "memory");
     }
-    Ok(octets)
+    octets
 }
 
 static LENGTHS: [usize; 7] = [0, 1, 16_383, 16_384, 16_385, 32_768, 81_921];
@@ -38,23 +37,21 @@ fn splits_and_joins(rt: &impl Abort, octets: &[u8], joiner: &mut Joiner) {
     holds(rt, false, "no more parts");
 }
 
-fn goes_around(rt: &impl Abort, alloc: Global, length: usize) -> Result<(), AllocError> {
-    let octets = file(alloc, length)?;
+fn goes_around(rt: &impl Abort, alloc: Global, length: usize) {
+    let octets = file(rt, alloc, length);
     let mut joiner = Joiner::new(alloc);
     splits_and_joins(rt, &octets, &mut joiner);
     let joined = joiner.into_bytes();
     holds(rt, joined == octets, "the octets");
     drop(joined);
     drop(octets);
-    Ok(())
 }
 
 #[test]
-fn parts_join_to_the_file(rt: HostRuntime) -> Result<(), Fail> {
+fn parts_join_to_the_file(rt: HostRuntime) {
     for length in &LENGTHS {
-        goes_around(&rt, rt.alloc(), *length)?;
+        goes_around(&rt, rt.alloc(), *length);
     }
-    Ok(())
 }
 
 // What comes first to a joiner, one after another, and whether it is taken.
@@ -71,11 +68,10 @@ fn joins_in_order(rt: &impl Abort, octets: &[u8], joiner: &mut Joiner) {
 }
 
 #[test]
-fn refuses_what_is_no_next_part(rt: HostRuntime) -> Result<(), Fail> {
-    let octets = file(rt.alloc(), PART_SIZE + 1)?;
+fn refuses_what_is_no_next_part(rt: HostRuntime) {
+    let octets = file(&rt, rt.alloc(), PART_SIZE + 1);
     let mut joiner = Joiner::new(rt.alloc());
     joins_in_order(&rt, &octets, &mut joiner);
     drop(joiner);
     drop(octets);
-    Ok(())
 }

@@ -5,56 +5,60 @@ use crate::checks::{same, same_text};
 use dict_catalogue::{CommandRefusal, Kept};
 use dict_desk::{Fault, Halted, Lookup, PlainDesk, apply_all};
 use dict_index::Edition;
-use std::alloc::{AllocError, Global};
+use std::alloc::Global;
 use std::process::Abort;
-use std::test::Fail;
 
 /// The answers in order.
-fn told_all(alloc: Global, answers: &[Result<Kept, CommandRefusal>]) -> Result<String, AllocError> {
+fn told_all(rt: &impl Abort, alloc: Global, answers: &[Result<Kept, CommandRefusal>]) -> String {
     let mut text = String::new(alloc);
     for answer in answers {
         match answer {
-            Ok(kept) => push_kept(alloc, &mut text, kept)?,
-            Err(refusal) => push_refusal(alloc, &mut text, refusal.number(), refusal.name())?,
+            Ok(kept) => push_kept(rt, alloc, &mut text, kept),
+            Err(refusal) => push_refusal(rt, alloc, &mut text, refusal.number(), refusal.name()),
         }
-        text.push_str("; ")?;
+        text.push_str("; ").expect(rt, "memory");
     }
-    Ok(text)
+    text
 }
 
 /// What a desk answers to an install, a rollback, a repeat of the first id and a retire.
-fn told_four(alloc: Global, desk: &mut PlainDesk, gem: &Edition<'static>) -> Result<String, Fail> {
+fn told_four(
+    rt: &impl Abort,
+    alloc: Global,
+    desk: &mut PlainDesk,
+    gem: &Edition<'static>,
+) -> String {
     let requests = [
         ("r1", Asked::Install("gem").command(gem)),
         ("r2", Asked::Rollback("gem").command(gem)),
         ("r1", Asked::Retire("gem").command(gem)),
         ("r2", Asked::Retire("gem").command(gem)),
     ];
-    let answers = apply_all(alloc, desk, &requests)?;
-    Ok(told_all(alloc, answers.as_slice())?)
+    let answers = apply_all(alloc, desk, &requests).expect(rt, "answers");
+    told_all(rt, alloc, answers.as_slice())
 }
 
 /// What comes after it: nothing is there, and no command is no answer.
-fn check_after(rt: &impl Abort, alloc: Global, desk: &mut PlainDesk) -> Result<(), Fail> {
-    same(rt, &desk.summary()?.items.len(), &0);
-    same(rt, &desk.summary()?.accepted, &2);
-    let count = apply_all(alloc, desk, &[])?.len();
-    same(rt, &count, &0);
-    Ok(())
+fn check_after(rt: &impl Abort, alloc: Global, desk: &mut PlainDesk) {
+    let summary = desk.summary().expect(rt, "a summary");
+    same(rt, &summary.items.len(), &0);
+    same(rt, &summary.accepted, &2);
+    let answers = apply_all(alloc, desk, &[]).expect(rt, "answers");
+    same(rt, &answers.len(), &0);
 }
 
 #[test]
-fn each_in_turn(rt: HostRuntime) -> Result<(), Fail> {
+fn each_in_turn(rt: HostRuntime) {
     let alloc = rt.alloc();
-    let gem = read(alloc, GEM)?;
+    let gem = read(&rt, alloc, GEM);
     let mut desk = PlainDesk::new(alloc);
-    let text = told_four(alloc, &mut desk, &gem)?;
+    let text = told_four(&rt, alloc, &mut desk, &gem);
     same_text(
         &rt,
         text.as_str(),
         "1 Install gem #1; 23 NoFormer; 1 Install gem #1; 2 Retire gem; ",
     );
-    check_after(&rt, alloc, &mut desk)
+    check_after(&rt, alloc, &mut desk);
 }
 
 #[test]

@@ -1,7 +1,8 @@
 // Commands as rows have them, and what is answered, as text.
 use dict_catalogue::{Command, Item, Kept, Summary};
 use dict_index::Edition;
-use std::alloc::{AllocError, Global};
+use std::alloc::Global;
+use std::process::Abort;
 
 /// A command; an install has the edition that is given to it.
 #[derive(Clone, Copy)]
@@ -31,80 +32,78 @@ impl Asked {
 }
 
 /// Puts a number.
-fn push_number(alloc: Global, text: &mut String, number: u64) -> Result<(), AllocError> {
-    let digits = format!(in alloc; "{number}")?;
-    text.push_str(digits.as_str())
+fn push_number(rt: &impl Abort, alloc: Global, text: &mut String, number: u64) {
+    let digits = format!(in alloc; "{number}").expect(rt, "memory");
+    text.push_str(digits.as_str()).expect(rt, "memory");
 }
 
 /// Puts a reply's number, verb and name, and its edition behind a `#`, if it has one.
-pub(crate) fn push_kept(alloc: Global, text: &mut String, kept: &Kept) -> Result<(), AllocError> {
-    push_number(alloc, text, kept.number)?;
+pub(crate) fn push_kept(rt: &impl Abort, alloc: Global, text: &mut String, kept: &Kept) {
+    push_number(rt, alloc, text, kept.number);
     let verb = kept.verb;
-    text.push_str(format!(in alloc; " {verb:?} ")?.as_str())?;
-    text.push_str(kept.name.as_str())?;
-    match kept.edition {
-        Some(number) => {
-            text.push_str(" #")?;
-            push_number(alloc, text, number)
-        }
-        None => Ok(()),
+    let told = format!(in alloc; " {verb:?} ").expect(rt, "memory");
+    text.push_str(told.as_str()).expect(rt, "memory");
+    text.push_str(kept.name.as_str()).expect(rt, "memory");
+    if let Some(number) = kept.edition {
+        text.push_str(" #").expect(rt, "memory");
+        push_number(rt, alloc, text, number);
     }
 }
 
 /// Puts a refusal's number and its name.
 pub(crate) fn push_refusal(
+    rt: &impl Abort,
     alloc: Global,
     text: &mut String,
     number: u8,
     name: &str,
-) -> Result<(), AllocError> {
-    push_number(alloc, text, u64::from(number))?;
-    text.push(' ')?;
-    text.push_str(name)
+) {
+    push_number(rt, alloc, text, u64::from(number));
+    text.push(' ').expect(rt, "memory");
+    text.push_str(name).expect(rt, "memory");
 }
 
 /// Puts the numbers of the editions that go, each behind a `-`.
-pub(crate) fn push_gone(alloc: Global, text: &mut String, gone: &[u64]) -> Result<(), AllocError> {
+pub(crate) fn push_gone(rt: &impl Abort, alloc: Global, text: &mut String, gone: &[u64]) {
     for number in gone {
-        text.push_str(" -")?;
-        push_number(alloc, text, *number)?;
+        text.push_str(" -").expect(rt, "memory");
+        push_number(rt, alloc, text, *number);
     }
-    Ok(())
 }
 
 /// Puts an item: its name and title, and the numbers of its editions or its members.
-fn push_item(alloc: Global, text: &mut String, item: &Item) -> Result<(), AllocError> {
-    text.push_str(item.name())?;
-    text.push(' ')?;
-    text.push_str(item.title())?;
+fn push_item(rt: &impl Abort, alloc: Global, text: &mut String, item: &Item) {
+    text.push_str(item.name()).expect(rt, "memory");
+    text.push(' ').expect(rt, "memory");
+    text.push_str(item.title()).expect(rt, "memory");
     match item {
         Item::Regular {
             current,
             former,
             ..
         } => {
-            text.push(' ')?;
-            push_number(alloc, text, current.number)?;
+            text.push(' ').expect(rt, "memory");
+            push_number(rt, alloc, text, current.number);
             if let Some(former) = former {
-                text.push('/')?;
-                push_number(alloc, text, former.number)?;
+                text.push('/').expect(rt, "memory");
+                push_number(rt, alloc, text, former.number);
             }
         }
         Item::Virtual { members, .. } => {
             for member in members {
-                text.push_str(" +")?;
-                text.push_str(member.as_str())?;
+                text.push_str(" +").expect(rt, "memory");
+                text.push_str(member.as_str()).expect(rt, "memory");
             }
         }
     }
-    text.push_str("; ")
+    text.push_str("; ").expect(rt, "memory");
 }
 
 /// The items in order.
-pub(crate) fn listed(alloc: Global, summary: &Summary) -> Result<String, AllocError> {
+pub(crate) fn listed(rt: &impl Abort, alloc: Global, summary: &Summary) -> String {
     let mut text = String::new(alloc);
     for item in &summary.items {
-        push_item(alloc, &mut text, item)?;
+        push_item(rt, alloc, &mut text, item);
     }
-    Ok(text)
+    text
 }

@@ -5,73 +5,55 @@ use crate::checks::{same, same_text, same_text_of};
 use dict_catalogue::{Command, Kept};
 use dict_desk::{Fault, Keeper, Lookup, PlainDesk};
 use dict_index::Edition;
-use std::alloc::{AllocError, Global};
+use std::alloc::Global;
 use std::process::Abort;
-use std::test::Fail;
 
 /// An id, a command, its answer, and the items after it.
 #[derive(Clone, Copy)]
 struct Row(&'static str, Asked, &'static str, &'static str);
 
 /// The answer: the reply's number, verb, name and edition, or the fault.
-fn push_answer(
-    alloc: Global,
-    text: &mut String,
-    answer: &Result<Kept, Fault>,
-) -> Result<(), AllocError> {
+fn push_answer(rt: &impl Abort, alloc: Global, text: &mut String, answer: &Result<Kept, Fault>) {
     match answer {
-        Ok(kept) => push_kept(alloc, text, kept),
-        Err(fault) => push_refusal(alloc, text, fault.number(), fault.name()),
+        Ok(kept) => push_kept(rt, alloc, text, kept),
+        Err(fault) => push_refusal(rt, alloc, text, fault.number(), fault.name()),
     }
 }
 
 /// What the desk answers to a command.
 fn answered(
+    rt: &impl Abort,
     alloc: Global,
     desk: &mut PlainDesk,
     id: &str,
     command: &Command<'_>,
-) -> Result<String, AllocError> {
+) -> String {
     let mut text = String::new(alloc);
     let answer = desk.apply(id, command);
-    push_answer(alloc, &mut text, &answer)?;
-    Ok(text)
+    push_answer(rt, alloc, &mut text, &answer);
+    text
 }
 
-fn check(
-    rt: &impl Abort,
-    alloc: Global,
-    desk: &mut PlainDesk,
-    gem: &Edition<'static>,
-    row: Row,
-) -> Result<(), Fail> {
+fn check(rt: &impl Abort, alloc: Global, desk: &mut PlainDesk, gem: &Edition<'static>, row: Row) {
     let Row(id, asked, answer, after) = row;
-    let answered = answered(alloc, desk, id, &asked.command(gem))?;
+    let answered = answered(rt, alloc, desk, id, &asked.command(gem));
     same_text(rt, answered.as_str(), answer);
-    let items = listed(alloc, desk.summary()?)?;
+    let items = listed(rt, alloc, desk.summary().expect(rt, "a summary"));
     same_text(rt, items.as_str(), after);
-    Ok(())
 }
 
 /// Applies the commands one after another.
-fn run(
-    rt: &impl Abort,
-    alloc: Global,
-    desk: &mut PlainDesk,
-    gem: &Edition<'static>,
-    rows: &[Row],
-) -> Result<(), Fail> {
+fn run(rt: &impl Abort, alloc: Global, desk: &mut PlainDesk, gem: &Edition<'static>, rows: &[Row]) {
     for row in rows {
-        check(rt, alloc, desk, gem, *row)?;
+        check(rt, alloc, desk, gem, *row);
     }
-    Ok(())
 }
 
 /// The same over a new desk.
-fn run_anew(rt: &impl Abort, alloc: Global, rows: &[Row]) -> Result<(), Fail> {
-    let gem = read(alloc, GEM)?;
+fn run_anew(rt: &impl Abort, alloc: Global, rows: &[Row]) {
+    let gem = read(rt, alloc, GEM);
     let mut desk = PlainDesk::new(alloc);
-    run(rt, alloc, &mut desk, &gem, rows)
+    run(rt, alloc, &mut desk, &gem, rows);
 }
 
 static SWAPPED: [Row; 7] = [
@@ -260,11 +242,10 @@ static REFUSED: [Row; 17] = [
 ];
 
 #[test]
-fn commands_over_a_new_desk(rt: HostRuntime) -> Result<(), Fail> {
+fn commands_over_a_new_desk(rt: HostRuntime) {
     for rows in [SWAPPED.as_slice(), PLACED.as_slice(), REFUSED.as_slice()] {
-        run_anew(&rt, rt.alloc(), rows)?;
+        run_anew(&rt, rt.alloc(), rows);
     }
-    Ok(())
 }
 
 /// Ids, and the replies that are kept under them after the rows of `ONCE`.
@@ -276,45 +257,39 @@ static KEPT: [(&str, &str); 4] = [
 ];
 
 /// The reply that is kept under an id.
-fn kept_under(alloc: Global, desk: &mut PlainDesk, id: &str) -> Result<String, Fail> {
+fn kept_under(rt: &impl Abort, alloc: Global, desk: &mut PlainDesk, id: &str) -> String {
     let mut text = String::new(alloc);
-    match desk.kept(id)? {
-        Some(kept) => push_kept(alloc, &mut text, &kept)?,
-        None => text.push_str("none")?,
+    match desk.kept(id).expect(rt, "what is kept") {
+        Some(kept) => push_kept(rt, alloc, &mut text, &kept),
+        None => text.push_str("none").expect(rt, "memory"),
     }
-    Ok(text)
+    text
 }
 
-fn check_kept(rt: &impl Abort, alloc: Global, desk: &mut PlainDesk) -> Result<(), Fail> {
+fn check_kept(rt: &impl Abort, alloc: Global, desk: &mut PlainDesk) {
     for (id, reply) in &KEPT {
-        let kept = kept_under(alloc, desk, id)?;
+        let kept = kept_under(rt, alloc, desk, id);
         same_text_of(rt, kept.as_str(), *reply, id);
     }
-    Ok(())
 }
 
 #[test]
-fn an_id_acts_once(rt: HostRuntime) -> Result<(), Fail> {
+fn an_id_acts_once(rt: HostRuntime) {
     let alloc = rt.alloc();
-    let gem = read(alloc, GEM)?;
+    let gem = read(&rt, alloc, GEM);
     let mut desk = PlainDesk::new(alloc);
-    run(&rt, alloc, &mut desk, &gem, &ONCE)?;
-    check_kept(&rt, alloc, &mut desk)
+    run(&rt, alloc, &mut desk, &gem, &ONCE);
+    check_kept(&rt, alloc, &mut desk);
 }
 
 /// Installs `gem0` to `gem63`.
-fn fill(
-    rt: &impl Abort,
-    alloc: Global,
-    desk: &mut PlainDesk,
-    gem: &Edition<'static>,
-) -> Result<(), Fail> {
+fn fill(rt: &impl Abort, alloc: Global, desk: &mut PlainDesk, gem: &Edition<'static>) {
     for n in 0..64u64 {
-        let name = format!(in alloc; "gem{n}")?;
-        install(desk, name.as_str(), name.as_str(), gem)?;
+        let name = format!(in alloc; "gem{n}").expect(rt, "memory");
+        install(rt, desk, name.as_str(), name.as_str(), gem);
     }
-    same(rt, &desk.summary()?.items.len(), &64);
-    Ok(())
+    let summary = desk.summary().expect(rt, "a summary");
+    same(rt, &summary.items.len(), &64);
 }
 
 /// Commands over 64 items, and their answers.
@@ -329,19 +304,18 @@ fn check_answer(
     desk: &mut PlainDesk,
     gem: &Edition<'static>,
     row: (Asked, &'static str),
-) -> Result<(), Fail> {
+) {
     let (asked, answer) = row;
-    let answered = answered(alloc, desk, "more", &asked.command(gem))?;
+    let answered = answered(rt, alloc, desk, "more", &asked.command(gem));
     same_text(rt, answered.as_str(), answer);
-    Ok(())
 }
 
 #[test]
-fn sixty_four_items(rt: HostRuntime) -> Result<(), Fail> {
+fn sixty_four_items(rt: HostRuntime) {
     let alloc = rt.alloc();
-    let gem = read(alloc, GEM)?;
+    let gem = read(&rt, alloc, GEM);
     let mut desk = PlainDesk::new(alloc);
-    fill(&rt, alloc, &mut desk, &gem)?;
-    check_answer(&rt, alloc, &mut desk, &gem, PAST_64[0])?;
-    check_answer(&rt, alloc, &mut desk, &gem, PAST_64[1])
+    fill(&rt, alloc, &mut desk, &gem);
+    check_answer(&rt, alloc, &mut desk, &gem, PAST_64[0]);
+    check_answer(&rt, alloc, &mut desk, &gem, PAST_64[1]);
 }

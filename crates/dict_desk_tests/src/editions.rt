@@ -5,9 +5,8 @@ use bstr::ByteSlice;
 use dict_index::{
     Edition, EditionRefusal, Entry, IndexFault, entry_key, is_edition_text, is_shown, read_edition,
 };
-use std::alloc::{AllocError, Global};
+use std::alloc::Global;
 use std::process::Abort;
-use std::test::Fail;
 
 /// A refusal's name and its line, or 0 where it has none; and no name where an edition is read.
 #[derive(Clone, Copy)]
@@ -15,44 +14,36 @@ struct Told(&'static str, usize);
 
 const READ: Told = Told("", 0);
 
-fn told_of(alloc: Global, index: &[u8], text: &[u8]) -> Result<Told, AllocError> {
+fn told_of(rt: &impl Abort, alloc: Global, index: &[u8], text: &[u8]) -> Told {
     match read_edition(alloc, index, text) {
-        Ok(_edition) => Ok(READ),
-        Err(IndexFault::Refused { refusal, line }) => {
-            Ok(Told(refusal.name(), line.unwrap_or(0)))
-        }
-        Err(IndexFault::Memory) => Err(AllocError),
+        Ok(_edition) => READ,
+        Err(IndexFault::Refused { refusal, line }) => Told(refusal.name(), line.unwrap_or(0)),
+        Err(IndexFault::Memory) => panic!(rt; "no memory"),
     }
 }
 
 // Reads the files, which have to be refused so.
-fn check(
-    rt: &impl Abort,
-    alloc: Global,
-    index: &[u8],
-    text: &[u8],
-    told: Told,
-) -> Result<(), Fail> {
-    let Told(name, line) = told_of(alloc, index, text)?;
+fn check(rt: &impl Abort, alloc: Global, index: &[u8], text: &[u8], told: Told) {
+    let Told(name, line) = told_of(rt, alloc, index, text);
     same_text(rt, name, told.0);
     same(rt, &line, &told.1);
-    Ok(())
 }
 
 // So many pieces, one behind the other, between a front and an end.
 fn repeated(
+    rt: &impl Abort,
     alloc: Global,
     front: &[u8],
     piece: &[u8],
     count: usize,
     end: &[u8],
-) -> Result<Vec<u8>, AllocError> {
-    let mut octets = front.to_vec(alloc)?;
+) -> Vec<u8> {
+    let mut octets = front.to_vec(alloc).expect(rt, "memory");
     for _ in 0..count {
-        octets.extend_from_slice(piece)?;
+        octets.extend_from_slice(piece).expect(rt, "memory");
     }
-    octets.extend_from_slice(end)?;
-    Ok(octets)
+    octets.extend_from_slice(end).expect(rt, "memory");
+    octets
 }
 
 // The octets as text, or the empty text where they are none.
@@ -61,25 +52,26 @@ fn as_text(octets: &[u8]) -> &str {
 }
 
 // Puts an entry as its headword, what is shown where that is another text, its key, offset, size and text.
-fn push_entry(alloc: Global, text: &mut String, entry: &Entry<'_>) -> Result<(), AllocError> {
-    text.push_str(entry.headword)?;
+fn push_entry(rt: &impl Abort, alloc: Global, text: &mut String, entry: &Entry<'_>) {
+    text.push_str(entry.headword).expect(rt, "memory");
     if entry.shown != entry.headword {
-        text.push_str(" as ")?;
-        text.push_str(entry.shown)?;
+        text.push_str(" as ").expect(rt, "memory");
+        text.push_str(entry.shown).expect(rt, "memory");
     }
-    text.push_str("=")?;
-    text.push_str(as_text(entry.key.as_bytes()))?;
-    let span = format!(in alloc; " {} {} ", entry.offset, entry.size)?;
-    text.push_str(span.as_str())?;
-    text.push_str(entry.body)
+    text.push_str("=").expect(rt, "memory");
+    text.push_str(as_text(entry.key.as_bytes()))
+        .expect(rt, "memory");
+    let span = format!(in alloc; " {} {} ", entry.offset, entry.size).expect(rt, "memory");
+    text.push_str(span.as_str()).expect(rt, "memory");
+    text.push_str(entry.body).expect(rt, "memory");
 }
 
-fn entries_in(alloc: Global, entries: &[Entry<'_>]) -> Result<String, AllocError> {
+fn entries_in(rt: &impl Abort, alloc: Global, entries: &[Entry<'_>]) -> String {
     let mut text = String::new(alloc);
     for entry in entries {
-        push_entry(alloc, &mut text, entry)?;
+        push_entry(rt, alloc, &mut text, entry);
     }
-    Ok(text)
+    text
 }
 
 // An index, a text, and the title, what the database says of itself, and the entries.
@@ -169,33 +161,26 @@ static CASES: [Case; 11] = [
     ),
 ];
 
-fn check_edition(
-    rt: &impl Abort,
-    alloc: Global,
-    edition: &Edition<'static>,
-    case: &Case,
-) -> Result<(), Fail> {
+fn check_edition(rt: &impl Abort, alloc: Global, edition: &Edition<'static>, case: &Case) {
     let Case(_, text, title, info, entries) = case;
     edition.is_well_formed();
     same_text(rt, edition.title(), *title);
     same_text_of(rt, edition.info(), *info, title);
     holds(rt, edition.text() == *text, title);
-    let read = entries_in(alloc, edition.entries())?;
+    let read = entries_in(rt, alloc, edition.entries());
     same_text_of(rt, read.as_str(), *entries, title);
-    Ok(())
 }
 
-fn read_case(rt: &impl Abort, alloc: Global, case: &Case) -> Result<(), Fail> {
-    let edition = read_edition(alloc, case.0, case.1)?;
-    check_edition(rt, alloc, &edition, case)
+fn read_case(rt: &impl Abort, alloc: Global, case: &Case) {
+    let edition = read_edition(alloc, case.0, case.1).expect(rt, "an edition");
+    check_edition(rt, alloc, &edition, case);
 }
 
 #[test]
-fn reads_editions(rt: HostRuntime) -> Result<(), Fail> {
+fn reads_editions(rt: HostRuntime) {
     for case in &CASES {
-        read_case(&rt, rt.alloc(), case)?;
+        read_case(&rt, rt.alloc(), case);
     }
-    Ok(())
 }
 
 static REFUSALS: [(EditionRefusal, u8, &str); 15] = [
@@ -243,12 +228,11 @@ static HEADWORDS: [(&str, &str); 14] = [
     ("00-databa\u{17f}e-short", "00databaseshort"),
 ];
 
-fn check_headword(rt: &impl Abort, alloc: Global, headword: &str, key: &str) -> Result<(), Fail> {
-    match entry_key(alloc, headword)? {
+fn check_headword(rt: &impl Abort, alloc: Global, headword: &str, key: &str) {
+    match entry_key(alloc, headword).expect(rt, "memory") {
         Some(found) => same_text_of(rt, as_text(found.as_bytes()), key, headword),
         None => same_text_of(rt, "", key, headword),
     }
-    Ok(())
 }
 
 static SHOWN: [(&str, bool); 8] = [
@@ -272,9 +256,9 @@ static TEXTS: [(&[u8], bool); 6] = [
 ];
 
 #[test]
-fn what_is_lawful(rt: HostRuntime) -> Result<(), Fail> {
+fn what_is_lawful(rt: HostRuntime) {
     for (headword, key) in &HEADWORDS {
-        check_headword(&rt, rt.alloc(), headword, key)?;
+        check_headword(&rt, rt.alloc(), headword, key);
     }
     for (text, is_lawful) in &SHOWN {
         same(&rt, &is_shown(text), is_lawful);
@@ -282,7 +266,6 @@ fn what_is_lawful(rt: HostRuntime) -> Result<(), Fail> {
     for (text, is_lawful) in &TEXTS {
         same(&rt, &is_edition_text(text), is_lawful);
     }
-    Ok(())
 }
 
 /// What letters may be.
@@ -295,12 +278,14 @@ enum Place {
 }
 
 // Whether so many letters are lawful there.
-fn may_be(alloc: Global, place: Place, count: usize) -> Result<bool, AllocError> {
-    let letters = repeated(alloc, b"", b"a", count, b"")?;
+fn may_be(rt: &impl Abort, alloc: Global, place: Place, count: usize) -> bool {
+    let letters = repeated(rt, alloc, b"", b"a", count, b"");
     match place {
-        Place::Headword => Ok(entry_key(alloc, as_text(&letters))?.is_some()),
-        Place::Shown => Ok(is_shown(as_text(&letters))),
-        Place::Line => Ok(is_edition_text(&repeated(alloc, b"x\n", &letters, 1, b"\ny")?)),
+        Place::Headword => entry_key(alloc, as_text(&letters))
+            .expect(rt, "memory")
+            .is_some(),
+        Place::Shown => is_shown(as_text(&letters)),
+        Place::Line => is_edition_text(&repeated(rt, alloc, b"x\n", &letters, 1, b"\ny")),
     }
 }
 
@@ -312,13 +297,12 @@ static MOST: [(Place, usize, &str); 3] = [
 ];
 
 #[test]
-fn lengths_keep_their_limits(rt: HostRuntime) -> Result<(), Fail> {
+fn lengths_keep_their_limits(rt: HostRuntime) {
     for (place, most, name) in &MOST {
-        holds(&rt, may_be(rt.alloc(), *place, *most)?, name);
-        let is_longer = may_be(rt.alloc(), *place, most.saturating_add(1))?;
+        holds(&rt, may_be(&rt, rt.alloc(), *place, *most), name);
+        let is_longer = may_be(&rt, rt.alloc(), *place, most.saturating_add(1));
         holds(&rt, !is_longer, name);
     }
-    Ok(())
 }
 
 // Where two faults are in the files, that of the earlier test is told.
@@ -339,17 +323,16 @@ static WHOLE: [(&[u8], &[u8], &str); 13] = [
 ];
 
 #[test]
-fn refuses_files_as_a_whole(rt: HostRuntime) -> Result<(), Fail> {
+fn refuses_files_as_a_whole(rt: HostRuntime) {
     for (index, text, name) in &WHOLE {
-        check(&rt, rt.alloc(), index, text, Told(name, 0))?;
+        check(&rt, rt.alloc(), index, text, Told(name, 0));
     }
-    Ok(())
 }
 
 // Behind the text of `gem`: a line that a text may not have, and a line of 1,022 octets.
-fn with_bad_end(alloc: Global, line: &[u8]) -> Result<Vec<u8>, AllocError> {
-    let front = repeated(alloc, GEM.2, b"", 0, line)?;
-    repeated(alloc, &front, b"x", 1_022, b"")
+fn with_bad_end(rt: &impl Abort, alloc: Global, line: &[u8]) -> Vec<u8> {
+    let front = repeated(rt, alloc, GEM.2, b"", 0, line);
+    repeated(rt, alloc, &front, b"x", 1_022, b"")
 }
 
 // Where two faults are in a line, that of the earlier test is told.
@@ -385,41 +368,33 @@ static LINES: [(&[u8], &str); 26] = [
 static GOOD: [&[u8]; 2] = [b"00-database-short\tA\tZ\n", b"dot\to\tF\n"];
 
 // The good lines, with another one at this place.
-fn index_with(alloc: Global, line: &[u8], place: usize) -> Result<Vec<u8>, AllocError> {
+fn index_with(rt: &impl Abort, alloc: Global, line: &[u8], place: usize) -> Vec<u8> {
     let mut index: Vec<u8> = Vec::new(alloc);
     for (k, other) in GOOD.iter().enumerate() {
         if k == place {
-            index.extend_from_slice(line)?;
+            index.extend_from_slice(line).expect(rt, "memory");
         }
-        index.extend_from_slice(other)?;
+        index.extend_from_slice(other).expect(rt, "memory");
     }
     if place == 2 {
-        index.extend_from_slice(line)?;
+        index.extend_from_slice(line).expect(rt, "memory");
     }
-    Ok(index)
+    index
 }
 
-fn check_line(
-    rt: &impl Abort,
-    alloc: Global,
-    text: &[u8],
-    line: &[u8],
-    name: &'static str,
-) -> Result<(), Fail> {
+fn check_line(rt: &impl Abort, alloc: Global, text: &[u8], line: &[u8], name: &'static str) {
     for place in 0..3usize {
-        let index = index_with(alloc, line, place)?;
-        check(rt, alloc, &index, text, Told(name, place + 1))?;
+        let index = index_with(rt, alloc, line, place);
+        check(rt, alloc, &index, text, Told(name, place + 1));
     }
-    Ok(())
 }
 
 #[test]
-fn refuses_a_line_wherever_it_stands(rt: HostRuntime) -> Result<(), Fail> {
-    let text = with_bad_end(rt.alloc(), b"\xc3\x01\n")?;
+fn refuses_a_line_wherever_it_stands(rt: HostRuntime) {
+    let text = with_bad_end(&rt, rt.alloc(), b"\xc3\x01\n");
     for (line, name) in &LINES {
-        check_line(&rt, rt.alloc(), &text, line, name)?;
+        check_line(&rt, rt.alloc(), &text, line, name);
     }
-    Ok(())
 }
 
 // Lines behind that of the title, and what is told of them.
@@ -463,13 +438,12 @@ static FIRST: [(&[u8], Told); 21] = [
 ];
 
 #[test]
-fn tells_the_first_fault(rt: HostRuntime) -> Result<(), Fail> {
-    let text = with_bad_end(rt.alloc(), b"\x01\n")?;
+fn tells_the_first_fault(rt: HostRuntime) {
+    let text = with_bad_end(&rt, rt.alloc(), b"\x01\n");
     for (lines, told) in &FIRST {
-        let index = repeated(rt.alloc(), GOOD[0], lines, 1, b"")?;
-        check(&rt, rt.alloc(), &index, &text, *told)?;
+        let index = repeated(&rt, rt.alloc(), GOOD[0], lines, 1, b"");
+        check(&rt, rt.alloc(), &index, &text, *told);
     }
-    Ok(())
 }
 
 fn told_of_index(len: usize) -> Told {
@@ -493,20 +467,20 @@ fn told_of_text(len: usize) -> Told {
 }
 
 #[test]
-fn refuses_files_that_are_cut_short(rt: HostRuntime) -> Result<(), Fail> {
+fn refuses_files_that_are_cut_short(rt: HostRuntime) {
     for k in 0..=GEM.1.len() {
         let (front, _) = GEM.1.split_at(k);
-        check(&rt, rt.alloc(), front, GEM.2, told_of_index(k))?;
+        check(&rt, rt.alloc(), front, GEM.2, told_of_index(k));
     }
     for k in 0..=GEM.2.len() {
         let (front, _) = GEM.2.split_at(k);
-        check(&rt, rt.alloc(), GEM.1, front, told_of_text(k))?;
+        check(&rt, rt.alloc(), GEM.1, front, told_of_text(k));
     }
     let text = b"00-database-short\nOres\n\xc3\xa9\n";
     let cut = b"00-database-short\tA\tX\niron\tX\tB\n";
     let whole = b"00-database-short\tA\tX\niron\tX\tC\n";
-    check(&rt, rt.alloc(), cut, text, Told("BodyText", 2))?;
-    check(&rt, rt.alloc(), whole, text, READ)
+    check(&rt, rt.alloc(), cut, text, Told("BodyText", 2));
+    check(&rt, rt.alloc(), whole, text, READ);
 }
 
 const SHORT: &[u8] = b"00-database-short\tA\tZ\n";
@@ -553,47 +527,47 @@ static LIMITS: [(&[u8], &[u8], usize, &[u8], Told); 8] = [
 ];
 
 #[test]
-fn keeps_to_columns_and_limits(rt: HostRuntime) -> Result<(), Fail> {
+fn keeps_to_columns_and_limits(rt: HostRuntime) {
     for (front, piece, count, end, told) in &LIMITS {
-        let index = repeated(rt.alloc(), front, piece, *count, end)?;
-        check(&rt, rt.alloc(), &index, GEM.2, *told)?;
+        let index = repeated(&rt, rt.alloc(), front, piece, *count, end);
+        check(&rt, rt.alloc(), &index, GEM.2, *told);
     }
-    let title = repeated(rt.alloc(), b"00-database-short\n", b"x", 201, b"")?;
-    check(&rt, rt.alloc(), b"00databaseshort\tA\tDa\n", &title, READ)?;
+    let title = repeated(&rt, rt.alloc(), b"00-database-short\n", b"x", 201, b"");
+    check(&rt, rt.alloc(), b"00databaseshort\tA\tDa\n", &title, READ);
     check(
         &rt,
         rt.alloc(),
         b"00databaseshort\tA\tDb\n",
         &title,
         Told("BadTitle", 0),
-    )
+    );
 }
 
 const LINE: &[u8] = b"a\tA\tA\n";
 
 // The title, and 262,143 lines more.
-fn most_lines(alloc: Global) -> Result<Vec<u8>, AllocError> {
-    let block = repeated(alloc, b"", LINE, 512, b"")?;
-    let others = repeated(alloc, b"", LINE, 511, b"")?;
-    repeated(alloc, SHORT, &block, 511, &others)
+fn most_lines(rt: &impl Abort, alloc: Global) -> Vec<u8> {
+    let block = repeated(rt, alloc, b"", LINE, 512, b"");
+    let others = repeated(rt, alloc, b"", LINE, 511, b"");
+    repeated(rt, alloc, SHORT, &block, 511, &others)
 }
 
 #[test]
-fn keeps_to_the_limit_of_lines(rt: HostRuntime) -> Result<(), Fail> {
-    let mut index = most_lines(rt.alloc())?;
-    check(&rt, rt.alloc(), &index, GEM.2, READ)?;
-    index.extend_from_slice(LINE)?;
-    check(&rt, rt.alloc(), &index, GEM.2, Told("TooManyEntries", 0))?;
-    index.extend_from_slice(b"a")?;
-    check(&rt, rt.alloc(), &index, GEM.2, Told("LastLine", 0))
+fn keeps_to_the_limit_of_lines(rt: HostRuntime) {
+    let mut index = most_lines(&rt, rt.alloc());
+    check(&rt, rt.alloc(), &index, GEM.2, READ);
+    index.extend_from_slice(LINE).expect(&rt, "memory");
+    check(&rt, rt.alloc(), &index, GEM.2, Told("TooManyEntries", 0));
+    index.extend_from_slice(b"a").expect(&rt, "memory");
+    check(&rt, rt.alloc(), &index, GEM.2, Told("LastLine", 0));
 }
 
 #[test]
-fn keeps_to_the_limit_of_a_text(rt: HostRuntime) -> Result<(), Fail> {
+fn keeps_to_the_limit_of_a_text(rt: HostRuntime) {
     let mut text: Vec<u8> = Vec::new(rt.alloc());
-    text.resize(67_108_864, b'x')?;
-    check(&rt, rt.alloc(), b"", &text, Told("NoTitle", 0))?;
-    text.push(b'x')?;
-    check(&rt, rt.alloc(), b"", &text, Told("TextTooLong", 0))?;
-    check(&rt, rt.alloc(), b"\xff", &text, Told("TextTooLong", 0))
+    text.resize(67_108_864, b'x').expect(&rt, "memory");
+    check(&rt, rt.alloc(), b"", &text, Told("NoTitle", 0));
+    text.push(b'x').expect(&rt, "memory");
+    check(&rt, rt.alloc(), b"", &text, Told("TextTooLong", 0));
+    check(&rt, rt.alloc(), b"\xff", &text, Told("TextTooLong", 0));
 }

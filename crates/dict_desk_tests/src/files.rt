@@ -2,41 +2,42 @@
 use dict_catalogue::Command;
 use dict_desk::{Keeper, PlainDesk};
 use dict_fixtures::{GEM_INDEX, GEM_TEXT, ORE_INDEX, ORE_TEXT};
-use dict_index::{Edition, IndexFault, read_edition};
+use dict_index::{Edition, read_edition};
 use std::alloc::Global;
-use std::test::Fail;
+use std::process::Abort;
 
 /// A name, an index and a text.
 #[derive(Clone, Copy)]
 pub(crate) struct Files(pub &'static str, pub &'static [u8], pub &'static [u8]);
 
 /// The edition that the files say.
-pub(crate) fn read(alloc: Global, files: Files) -> Result<Edition<'static>, IndexFault> {
-    read_edition(alloc, files.1, files.2)
+pub(crate) fn read(rt: &impl Abort, alloc: Global, files: Files) -> Edition<'static> {
+    read_edition(alloc, files.1, files.2).expect(rt, "an edition")
 }
 
 /// Installs the edition under a name.
 pub(crate) fn install(
+    rt: &impl Abort,
     desk: &mut PlainDesk,
     id: &str,
     name: &str,
     edition: &Edition,
-) -> Result<(), Fail> {
+) {
     let command = Command::Install { name, edition };
-    desk.apply(id, &command)?;
-    Ok(())
+    desk.apply(id, &command).expect(rt, "a reply");
 }
 
 /// The same for the edition that the files say.
 pub(crate) fn install_files(
+    rt: &impl Abort,
     alloc: Global,
     desk: &mut PlainDesk,
     id: &str,
     name: &str,
     files: Files,
-) -> Result<(), Fail> {
-    let edition = read(alloc, files)?;
-    install(desk, id, name, &edition)
+) {
+    let edition = read(rt, alloc, files);
+    install(rt, desk, id, name, &edition);
 }
 
 pub(crate) const GEM: Files = Files("gem", GEM_INDEX, GEM_TEXT);

@@ -5,9 +5,8 @@ use crate::checks::{holds, same, same_text_of};
 use dict_desk::PlainDesk;
 use dict_index::read_edition;
 use dict_match::Strategy;
-use std::alloc::{AllocError, Global};
+use std::alloc::Global;
 use std::process::Abort;
-use std::test::Fail;
 
 /// The edition's number, the strategy, the query, the entries found, and the headwords found.
 #[derive(Clone, Copy)]
@@ -32,21 +31,19 @@ fn check_out(
     (number, sought): (u64, Sought),
     (strategy, query): (Strategy, &str),
     (most, wanted): (usize, &str),
-) -> Result<(), Fail> {
-    let rows = hand_out(alloc, desk, number, sought, strategy, query, most)?;
+) {
+    let rows = hand_out(rt, alloc, desk, number, sought, strategy, query, most);
     same_text_of(rt, rows.as_str(), wanted, query);
-    Ok(())
 }
 
-fn check(rt: &impl Abort, alloc: Global, desk: &mut PlainDesk, row: Row) -> Result<(), Fail> {
+fn check(rt: &impl Abort, alloc: Global, desk: &mut PlainDesk, row: Row) {
     let Row(number, strategy, query, found, heads) = row;
     let by = (strategy, query);
-    check_out(rt, alloc, desk, (number, Sought::Found), by, (9, found))?;
-    check_out(rt, alloc, desk, (number, Sought::Heads), by, (9, heads))?;
-    let (entries, words) = counts(alloc, desk, number, strategy, query)?;
+    check_out(rt, alloc, desk, (number, Sought::Found), by, (9, found));
+    check_out(rt, alloc, desk, (number, Sought::Heads), by, (9, heads));
+    let (entries, words) = counts(rt, alloc, desk, number, strategy, query);
     holds(rt, entries == row_count(found), query);
     holds(rt, words == row_count(heads), query);
-    Ok(())
 }
 
 static ROWS: [Row; 26] = [
@@ -172,40 +169,33 @@ static INFOS: [Stop; 3] = [
     (1, Sought::Info, 1, "=;!"),
 ];
 
-fn check_stops(
-    rt: &impl Abort,
-    alloc: Global,
-    desk: &mut PlainDesk,
-    stops: &[Stop],
-) -> Result<(), Fail> {
+fn check_stops(rt: &impl Abort, alloc: Global, desk: &mut PlainDesk, stops: &[Stop]) {
     for (number, sought, most, wanted) in stops {
         let by = (Strategy::Substring, "a");
-        check_out(rt, alloc, desk, (*number, *sought), by, (*most, wanted))?;
+        check_out(rt, alloc, desk, (*number, *sought), by, (*most, wanted));
     }
-    Ok(())
 }
 
 static FIVE: [Files; 5] = [GEM, ORE, EDGE, TELL, STONES];
 
-fn install_five(alloc: Global, desk: &mut PlainDesk) -> Result<(), Fail> {
+fn install_five(rt: &impl Abort, alloc: Global, desk: &mut PlainDesk) {
     for files in &FIVE {
-        install_files(alloc, desk, files.0, files.0, *files)?;
+        install_files(rt, alloc, desk, files.0, files.0, *files);
     }
-    Ok(())
 }
 
-fn run(rt: &impl Abort, alloc: Global, desk: &mut PlainDesk) -> Result<(), Fail> {
-    install_five(alloc, desk)?;
+fn run(rt: &impl Abort, alloc: Global, desk: &mut PlainDesk) {
+    install_five(rt, alloc, desk);
     for row in &ROWS {
-        check(rt, alloc, desk, *row)?;
+        check(rt, alloc, desk, *row);
     }
-    check_stops(rt, alloc, desk, &INFOS)
+    check_stops(rt, alloc, desk, &INFOS);
 }
 
 #[test]
-fn all_strategies(rt: HostRuntime) -> Result<(), Fail> {
+fn all_strategies(rt: HostRuntime) {
     let mut desk = PlainDesk::new(rt.alloc());
-    run(&rt, rt.alloc(), &mut desk)
+    run(&rt, rt.alloc(), &mut desk);
 }
 
 // What is sought in `stones`.
@@ -232,56 +222,50 @@ static STOPS: [Stop; 9] = [
 ];
 
 #[test]
-fn a_sink_stops_at_each_row(rt: HostRuntime) -> Result<(), Fail> {
+fn a_sink_stops_at_each_row(rt: HostRuntime) {
     let mut desk = PlainDesk::new(rt.alloc());
-    install_files(rt.alloc(), &mut desk, "a", "stones", STONES)?;
-    check_stops(&rt, rt.alloc(), &mut desk, &STOPS)
+    install_files(&rt, rt.alloc(), &mut desk, "a", "stones", STONES);
+    check_stops(&rt, rt.alloc(), &mut desk, &STOPS);
 }
 
 // How many entries end by the word opal in the first edition, and none in the second.
-fn check_opals(
-    rt: &impl Abort,
-    alloc: Global,
-    desk: &mut PlainDesk,
-    opals: u64,
-) -> Result<(), Fail> {
-    let (first, _) = counts(alloc, desk, 1, Strategy::Last, "opal")?;
+fn check_opals(rt: &impl Abort, alloc: Global, desk: &mut PlainDesk, opals: u64) {
+    let (first, _) = counts(rt, alloc, desk, 1, Strategy::Last, "opal");
     same(rt, &first, &opals);
-    let (second, _) = counts(alloc, desk, 2, Strategy::Last, "opal")?;
+    let (second, _) = counts(rt, alloc, desk, 2, Strategy::Last, "opal");
     same(rt, &second, &0);
-    Ok(())
 }
 
-fn come_and_go(rt: &impl Abort, alloc: Global, desk: &mut PlainDesk) -> Result<(), Fail> {
-    install_files(alloc, desk, "a", "gem", GEM)?;
-    check_opals(rt, alloc, desk, 2)?;
-    install_files(alloc, desk, "b", "gem", ORE)?;
-    check_opals(rt, alloc, desk, 2)?;
-    install_files(alloc, desk, "c", "gem", ORE)?;
-    check_opals(rt, alloc, desk, 0)
+fn come_and_go(rt: &impl Abort, alloc: Global, desk: &mut PlainDesk) {
+    install_files(rt, alloc, desk, "a", "gem", GEM);
+    check_opals(rt, alloc, desk, 2);
+    install_files(rt, alloc, desk, "b", "gem", ORE);
+    check_opals(rt, alloc, desk, 2);
+    install_files(rt, alloc, desk, "c", "gem", ORE);
+    check_opals(rt, alloc, desk, 0);
 }
 
 #[test]
-fn editions_come_and_go(rt: HostRuntime) -> Result<(), Fail> {
+fn editions_come_and_go(rt: HostRuntime) {
     let mut desk = PlainDesk::new(rt.alloc());
-    come_and_go(&rt, rt.alloc(), &mut desk)
+    come_and_go(&rt, rt.alloc(), &mut desk);
 }
 
 // An index of 1,000 entries: `word 0` to `word 249`, four times over.
-fn thousand(alloc: Global) -> Result<String, AllocError> {
-    let mut index = String::from_str(alloc, "00-database-short\tA\tb\n")?;
+fn thousand(rt: &impl Abort, alloc: Global) -> String {
+    let mut index = String::from_str(alloc, "00-database-short\tA\tb\n").expect(rt, "memory");
     for n in 0..1000u64 {
         let word = n % 250;
-        let line = format!(in alloc; "word {word}\tb\tC\n")?;
-        index.push_str(line.as_str())?;
+        let line = format!(in alloc; "word {word}\tb\tC\n").expect(rt, "memory");
+        index.push_str(line.as_str()).expect(rt, "memory");
     }
-    Ok(index)
+    index
 }
 
-fn install_thousand(alloc: Global, desk: &mut PlainDesk) -> Result<(), Fail> {
-    let index = thousand(alloc)?;
-    let edition = read_edition(alloc, index.as_bytes(), STONES.2)?;
-    install(desk, "a", "stones", &edition)
+fn install_thousand(rt: &impl Abort, alloc: Global, desk: &mut PlainDesk) {
+    let index = thousand(rt, alloc);
+    let edition = read_edition(alloc, index.as_bytes(), STONES.2).expect(rt, "an edition");
+    install(rt, desk, "a", "stones", &edition);
 }
 
 /// A strategy, a query, how many entries it finds, and how many headwords.
@@ -302,28 +286,26 @@ static THOUSAND: [Many; 11] = [
     Many(Strategy::Last, "250", 0, 0),
 ];
 
-fn check_many(rt: &impl Abort, alloc: Global, desk: &mut PlainDesk, row: Many) -> Result<(), Fail> {
+fn check_many(rt: &impl Abort, alloc: Global, desk: &mut PlainDesk, row: Many) {
     let Many(strategy, query, entries, heads) = row;
-    let (found, words) = counts(alloc, desk, 1, strategy, query)?;
+    let (found, words) = counts(rt, alloc, desk, 1, strategy, query);
     holds(rt, found == entries, query);
     holds(rt, words == heads, query);
-    let found = row_count(hand_out(alloc, desk, 1, Sought::Found, strategy, query, 2000)?.as_str());
-    holds(rt, found == entries, query);
-    let words = row_count(hand_out(alloc, desk, 1, Sought::Heads, strategy, query, 2000)?.as_str());
-    holds(rt, words == heads, query);
-    Ok(())
+    let rows = hand_out(rt, alloc, desk, 1, Sought::Found, strategy, query, 2000);
+    holds(rt, row_count(rows.as_str()) == entries, query);
+    let rows = hand_out(rt, alloc, desk, 1, Sought::Heads, strategy, query, 2000);
+    holds(rt, row_count(rows.as_str()) == heads, query);
 }
 
-fn run_thousand(rt: &impl Abort, alloc: Global, desk: &mut PlainDesk) -> Result<(), Fail> {
-    install_thousand(alloc, desk)?;
+fn run_thousand(rt: &impl Abort, alloc: Global, desk: &mut PlainDesk) {
+    install_thousand(rt, alloc, desk);
     for row in &THOUSAND {
-        check_many(rt, alloc, desk, *row)?;
+        check_many(rt, alloc, desk, *row);
     }
-    Ok(())
 }
 
 #[test]
-fn a_thousand_entries(rt: HostRuntime) -> Result<(), Fail> {
+fn a_thousand_entries(rt: HostRuntime) {
     let mut desk = PlainDesk::new(rt.alloc());
-    run_thousand(&rt, rt.alloc(), &mut desk)
+    run_thousand(&rt, rt.alloc(), &mut desk);
 }

@@ -4,10 +4,9 @@ use super::files::{GEM, read};
 use crate::checks::{same, same_text};
 use dict_catalogue::{Command, CommandRefusal, PlanFault, PlannedChange, Summary, Verb, plan};
 use dict_index::Edition;
-use std::alloc::{AllocError, Global};
+use std::alloc::Global;
 use std::mem::swap;
 use std::process::Abort;
-use std::test::Fail;
 
 /// A command, its answer, and the items after it.
 #[derive(Clone, Copy)]
@@ -15,51 +14,45 @@ struct Row(Asked, &'static str, &'static str);
 
 /// The answer: the reply, and the editions that go; or the refusal.
 fn push_answer(
+    rt: &impl Abort,
     alloc: Global,
     text: &mut String,
     planned: &Result<PlannedChange, PlanFault>,
-) -> Result<(), AllocError> {
+) {
     match planned {
         Ok(change) => {
-            push_kept(alloc, text, &change.kept)?;
-            push_gone(alloc, text, change.gone.as_slice())
+            push_kept(rt, alloc, text, &change.kept);
+            push_gone(rt, alloc, text, change.gone.as_slice());
         }
         Err(PlanFault::Refused(refusal)) => {
-            push_refusal(alloc, text, refusal.number(), refusal.name())
+            push_refusal(rt, alloc, text, refusal.number(), refusal.name());
         }
-        Err(PlanFault::Memory) => Err(AllocError),
+        Err(PlanFault::Memory) => panic!(rt; "no memory"),
     }
 }
 
 /// Plans a command, puts the answer, and goes on to the summary after it.
 fn step(
+    rt: &impl Abort,
     alloc: Global,
     text: &mut String,
     summary: &mut Summary,
     command: &Command<'_>,
-) -> Result<(), AllocError> {
+) {
     let mut planned = plan(alloc, summary, command);
-    let put = push_answer(alloc, text, &planned);
+    push_answer(rt, alloc, text, &planned);
     if let Ok(change) = &mut planned {
         swap(summary, &mut change.summary);
     }
-    put
 }
 
-fn check(
-    rt: &impl Abort,
-    alloc: Global,
-    summary: &mut Summary,
-    gem: &Edition<'static>,
-    row: Row,
-) -> Result<(), Fail> {
+fn check(rt: &impl Abort, alloc: Global, summary: &mut Summary, gem: &Edition<'static>, row: Row) {
     let Row(asked, answer, after) = row;
     let mut text = String::new(alloc);
-    step(alloc, &mut text, summary, &asked.command(gem))?;
+    step(rt, alloc, &mut text, summary, &asked.command(gem));
     same_text(rt, text.as_str(), answer);
-    let items = listed(alloc, summary)?;
+    let items = listed(rt, alloc, summary);
     same_text(rt, items.as_str(), after);
-    Ok(())
 }
 
 /// Plans the commands one after another from this summary on.
@@ -69,25 +62,19 @@ fn run(
     summary: &mut Summary,
     gem: &Edition<'static>,
     rows: &[Row],
-) -> Result<(), Fail> {
+) {
     for row in rows {
-        check(rt, alloc, summary, gem, *row)?;
+        check(rt, alloc, summary, gem, *row);
     }
-    Ok(())
 }
 
 /// The same from the empty summary on, by two tables: how many installs were accepted then, and how many commands.
-fn run_both(
-    rt: &impl Abort,
-    alloc: Global,
-    first: &[Row],
-    rows: &[Row],
-) -> Result<(u64, u64), Fail> {
-    let gem = read(alloc, GEM)?;
+fn run_both(rt: &impl Abort, alloc: Global, first: &[Row], rows: &[Row]) -> (u64, u64) {
+    let gem = read(rt, alloc, GEM);
     let mut summary = Summary::new(alloc);
-    run(rt, alloc, &mut summary, &gem, first)?;
-    run(rt, alloc, &mut summary, &gem, rows)?;
-    Ok((summary.installs, summary.accepted))
+    run(rt, alloc, &mut summary, &gem, first);
+    run(rt, alloc, &mut summary, &gem, rows);
+    (summary.installs, summary.accepted)
 }
 
 static ONE: [Row; 15] = [
@@ -262,16 +249,15 @@ static REFUSED: [Row; 17] = [
 ];
 
 #[test]
-fn commands_one_after_another(rt: HostRuntime) -> Result<(), Fail> {
+fn commands_one_after_another(rt: HostRuntime) {
     for (first, rows, accepted) in [
         ([].as_slice(), ONE.as_slice(), (5, 10)),
         (MADE.as_slice(), OF_THREE.as_slice(), (4, 11)),
         (MADE.as_slice(), PLACES.as_slice(), (2, 8)),
         (MADE.as_slice(), REFUSED.as_slice(), (2, 4)),
     ] {
-        same(&rt, &run_both(&rt, rt.alloc(), first, rows)?, &accepted);
+        same(&rt, &run_both(&rt, rt.alloc(), first, rows), &accepted);
     }
-    Ok(())
 }
 
 const LATE: &str = "ore Gems 1; gem Gems 2; all All +gem; ";
@@ -293,20 +279,15 @@ static LAST: [Row; 9] = [
 ];
 
 /// Goes through the rows over the items of this summary, with one command left.
-fn run_late(
-    rt: &impl Abort,
-    alloc: Global,
-    summary: &mut Summary,
-    gem: &Edition<'static>,
-) -> Result<(), Fail> {
-    run(rt, alloc, summary, gem, &MADE)?;
+fn run_late(rt: &impl Abort, alloc: Global, summary: &mut Summary, gem: &Edition<'static>) {
+    run(rt, alloc, summary, gem, &MADE);
     let mut late = Summary {
         items: Vec::new(alloc),
         installs: 2,
         accepted: 9_223_372_036_854_775_806,
     };
     swap(&mut late.items, &mut summary.items);
-    run(rt, alloc, &mut late, gem, &LAST)
+    run(rt, alloc, &mut late, gem, &LAST);
 }
 
 // A command over 64 items, its answer, and how many items there are after it.
@@ -329,37 +310,37 @@ static FULL: [(Asked, &str, usize); 11] = [
 ];
 
 /// Makes `gem` with a former edition, and 63 virtual items.
-fn fill(alloc: Global, summary: &mut Summary, gem: &Edition<'static>) -> Result<(), Fail> {
+fn fill(rt: &impl Abort, alloc: Global, summary: &mut Summary, gem: &Edition<'static>) {
     let mut text = String::new(alloc);
     let install = Asked::Install("gem").command(gem);
-    step(alloc, &mut text, summary, &install)?;
-    step(alloc, &mut text, summary, &install)?;
+    step(rt, alloc, &mut text, summary, &install);
+    step(rt, alloc, &mut text, summary, &install);
     for n in 0u8..63 {
-        let name = format!(in alloc; "v{n}")?;
+        let name = format!(in alloc; "v{n}").expect(rt, "memory");
         let command = Command::PutVirtual {
             name: name.as_str(),
             title: "V",
             members: &["gem"],
         };
-        step(alloc, &mut text, summary, &command)?;
+        step(rt, alloc, &mut text, summary, &command);
     }
-    Ok(())
 }
 
 /// What is answered to a command, and how many items there are after the change, or 64 where there is none.
 fn told_full(
+    rt: &impl Abort,
     alloc: Global,
     summary: &Summary,
     command: &Command<'_>,
-) -> Result<(String, usize), AllocError> {
+) -> (String, usize) {
     let mut text = String::new(alloc);
     let planned = plan(alloc, summary, command);
-    push_answer(alloc, &mut text, &planned)?;
+    push_answer(rt, alloc, &mut text, &planned);
     let count = match &planned {
         Ok(change) => change.summary.items.len(),
         Err(_) => 64,
     };
-    Ok((text, count))
+    (text, count)
 }
 
 fn check_full(
@@ -368,34 +349,27 @@ fn check_full(
     summary: &Summary,
     gem: &Edition<'static>,
     row: (Asked, &'static str, usize),
-) -> Result<(), AllocError> {
+) {
     let (asked, answer, count) = row;
-    let (text, found) = told_full(alloc, summary, &asked.command(gem))?;
+    let (text, found) = told_full(rt, alloc, summary, &asked.command(gem));
     same_text(rt, text.as_str(), answer);
     same(rt, &found, &count);
-    Ok(())
 }
 
-fn run_full(
-    rt: &impl Abort,
-    alloc: Global,
-    summary: &mut Summary,
-    gem: &Edition<'static>,
-) -> Result<(), Fail> {
-    fill(alloc, summary, gem)?;
+fn run_full(rt: &impl Abort, alloc: Global, summary: &mut Summary, gem: &Edition<'static>) {
+    fill(rt, alloc, summary, gem);
     for row in &FULL {
-        check_full(rt, alloc, summary, gem, *row)?;
+        check_full(rt, alloc, summary, gem, *row);
     }
-    Ok(())
 }
 
 #[test]
-fn where_the_catalogue_is_full(rt: HostRuntime) -> Result<(), Fail> {
-    let gem = read(rt.alloc(), GEM)?;
+fn where_the_catalogue_is_full(rt: HostRuntime) {
+    let gem = read(&rt, rt.alloc(), GEM);
     let mut late = Summary::new(rt.alloc());
-    run_late(&rt, rt.alloc(), &mut late, &gem)?;
+    run_late(&rt, rt.alloc(), &mut late, &gem);
     let mut full = Summary::new(rt.alloc());
-    run_full(&rt, rt.alloc(), &mut full, &gem)
+    run_full(&rt, rt.alloc(), &mut full, &gem);
 }
 
 static REFUSALS: [(CommandRefusal, u8, &str); 13] = [

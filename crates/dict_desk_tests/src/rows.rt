@@ -2,6 +2,7 @@
 use dict_desk::{Demand, End, Fault, Lookup, PlainDesk, Row, RowSink, What};
 use dict_match::{Key, Strategy, key_of};
 use std::alloc::{AllocError, Global};
+use std::process::Abort;
 
 /// Collects rows, and stops at the last of so many.
 #[derive(Drop)]
@@ -63,6 +64,7 @@ fn hand(
 
 /// The rows that are handed out, at most so many, and `.` behind them where they are all, or `!` where the sink stopped.
 pub(crate) fn hand_out(
+    rt: &impl Abort,
     alloc: Global,
     desk: &mut PlainDesk,
     number: u64,
@@ -70,39 +72,35 @@ pub(crate) fn hand_out(
     strategy: Strategy,
     query: &str,
     most: usize,
-) -> Result<String, Fault> {
-    let query = key_of(alloc, query)?;
+) -> String {
+    let query = key_of(alloc, query).expect(rt, "memory");
     let mut rows = Rows {
         text: String::new(alloc),
         left: most,
     };
-    let end = hand(desk, number, sought, strategy, &query, &mut rows)?;
-    rows.text.push(match end {
+    let end = match hand(desk, number, sought, strategy, &query, &mut rows).expect(rt, "rows") {
         End::All => '.',
         End::Stopped => '!',
-    })?;
-    Ok(rows.text)
-}
-
-fn count_both(
-    desk: &mut PlainDesk,
-    number: u64,
-    strategy: Strategy,
-    query: &Key,
-) -> Result<(u64, u64), Fault> {
-    let entries = desk.count(number, strategy, query, What::Entries)?;
-    let heads = desk.count(number, strategy, query, What::Headwords)?;
-    Ok((entries, heads))
+    };
+    rows.text.push(end).expect(rt, "memory");
+    rows.text
 }
 
 /// How many entries are found, and how many headwords.
 pub(crate) fn counts(
+    rt: &impl Abort,
     alloc: Global,
     desk: &mut PlainDesk,
     number: u64,
     strategy: Strategy,
     query: &str,
-) -> Result<(u64, u64), Fault> {
-    let query = key_of(alloc, query)?;
-    count_both(desk, number, strategy, &query)
+) -> (u64, u64) {
+    let query = key_of(alloc, query).expect(rt, "memory");
+    let entries = desk
+        .count(number, strategy, &query, What::Entries)
+        .expect(rt, "a count");
+    let heads = desk
+        .count(number, strategy, &query, What::Headwords)
+        .expect(rt, "a count");
+    (entries, heads)
 }

@@ -2,7 +2,7 @@
 use crate::checks::holds;
 use dict_proto::{OverWrite, Reply, write_reply};
 use std::io::{Result as IoResult, Write};
-use std::test::Fail;
+use std::process::Abort;
 
 // A writer that counts its calls.
 #[derive(Drop)]
@@ -22,12 +22,10 @@ impl Write for Counting {
 }
 
 // How often a writer is called for a reply.
-fn calls_for(reply: &Reply) -> Result<usize, Fail> {
+fn calls_for(rt: &impl Abort, reply: &Reply) -> usize {
     let mut sink = OverWrite::new(Counting { calls: 0 });
-    let put = write_reply(&mut sink, reply);
-    let calls = sink.into_inner().calls;
-    put?;
-    Ok(calls)
+    write_reply(&mut sink, reply).expect(rt, "a reply");
+    sink.into_inner().calls
 }
 
 static CALLS: [(Reply<'static>, usize); 6] = [
@@ -61,9 +59,8 @@ static CALLS: [(Reply<'static>, usize); 6] = [
 
 // A line is written by one call, and so is a short text.
 #[test]
-fn a_writer_is_called_once_a_line(rt: HostRuntime) -> Result<(), Fail> {
+fn a_writer_is_called_once_a_line(rt: HostRuntime) {
     for (reply, calls) in &CALLS {
-        holds(&rt, calls_for(reply)? == *calls, "calls");
+        holds(&rt, calls_for(&rt, reply) == *calls, "calls");
     }
-    Ok(())
 }

@@ -6,10 +6,9 @@ use crate::sessions::{told_feed, told_of_run, told_run};
 use dict_desk::{Lookup, PlainDesk};
 use dict_fixtures::FailingDesk;
 use dict_proto::OverRead;
-use std::alloc::{AllocError, Global};
+use std::alloc::Global;
 use std::io::{Error, ErrorKind, Read, Result as IoResult};
 use std::process::Abort;
-use std::test::Fail;
 
 // A line, after how many of its calls the desk fails, and what the session comes to and is answered. Each database asked is
 // counted, and only those of which something was counted are asked again.
@@ -102,39 +101,36 @@ enum Failing {
     Run(&'static str),
 }
 
-fn tell<D: Lookup>(alloc: Global, desk: &mut D, failing: Failing) -> Result<String, AllocError> {
+fn tell<D: Lookup>(rt: &impl Abort, alloc: Global, desk: &mut D, failing: Failing) -> String {
     match failing {
         Failing::Fed(line) => {
-            told_feed(alloc, desk, (line.as_bytes(), b"STATUS\r\n", b""), 1000)
+            let pieces = (line.as_bytes(), b"STATUS\r\n".as_slice(), b"".as_slice());
+            told_feed(rt, alloc, desk, pieces, 1000)
         }
-        Failing::Run(input) => told_run(alloc, desk, input, 1000),
+        Failing::Run(input) => told_run(rt, alloc, desk, input, 1000),
     }
 }
 
 // A catalogue of these databases.
-fn desk_of(alloc: Global, databases: &[Files]) -> Result<PlainDesk, Fail> {
+fn desk_of(rt: &impl Abort, alloc: Global, databases: &[Files]) -> PlainDesk {
     let mut desk = PlainDesk::new(alloc);
-    match fill(alloc, &mut desk, databases, false) {
-        Ok(()) => Ok(desk),
-        Err(fail) => {
-            drop(desk);
-            Err(fail)
-        }
-    }
+    fill(rt, alloc, &mut desk, databases, false);
+    desk
 }
 
 // What is done comes to, over a catalogue of these databases that fails after so many calls.
 fn told_failing(
+    rt: &impl Abort,
     alloc: Global,
     databases: &[Files],
     calls_left: u64,
     failing: Failing,
-) -> Result<String, Fail> {
-    let plain = desk_of(alloc, databases)?;
+) -> String {
+    let plain = desk_of(rt, alloc, databases);
     let mut desk = FailingDesk::new(plain, calls_left, false);
-    let told = tell(alloc, &mut desk, failing);
+    let told = tell(rt, alloc, &mut desk, failing);
     drop(desk);
-    Ok(told?)
+    told
 }
 
 const FAILED_RUN: &str =
@@ -147,15 +143,14 @@ fn fail(
     calls_left: u64,
     failing: Failing,
     wanted: &str,
-) -> Result<(), Fail> {
-    let told = told_failing(alloc, databases, calls_left, failing)?;
+) {
+    let told = told_failing(rt, alloc, databases, calls_left, failing);
     same_text(rt, told.as_str(), wanted);
     drop(told);
-    Ok(())
 }
 
 #[test]
-fn a_desk_fails_at_each_of_its_calls(rt: HostRuntime) -> Result<(), Fail> {
+fn a_desk_fails_at_each_of_its_calls(rt: HostRuntime) {
     for (line, calls_left, wanted) in &ROWS {
         let failing = Failing::Fed(line);
         fail(
@@ -165,10 +160,10 @@ fn a_desk_fails_at_each_of_its_calls(rt: HostRuntime) -> Result<(), Fail> {
             *calls_left,
             failing,
             wanted,
-        )?;
+        );
     }
     let failing = Failing::Run("DEFINE gem opal\r\nSTATUS\r\n");
-    fail(&rt, rt.alloc(), &[GEM], 1, failing, FAILED_RUN)
+    fail(&rt, rt.alloc(), &[GEM], 1, failing, FAILED_RUN);
 }
 
 // A reader that fails once its octets are given.
@@ -187,40 +182,30 @@ impl<'a> Read for Torn<'a> {
 }
 
 // What a run comes to whose reader fails.
-fn told_torn<D: Lookup>(alloc: Global, desk: &mut D) -> Result<String, AllocError> {
+fn told_torn<D: Lookup>(rt: &impl Abort, alloc: Global, desk: &mut D) -> String {
     let mut reader = OverRead::new(Torn {
         octets: b"STATUS\r\nSTATUS\r",
     });
-    told_of_run(alloc, &mut reader, desk, 1000)
+    told_of_run(rt, alloc, &mut reader, desk, 1000)
 }
 
 /// A reader fails after an answer.
-pub(crate) fn tear<D: Lookup>(
-    rt: &impl Abort,
-    alloc: Global,
-    desk: &mut D,
-) -> Result<(), AllocError> {
+pub(crate) fn tear<D: Lookup>(rt: &impl Abort, alloc: Global, desk: &mut D) {
     let want = "Err(Read) 220 gems.test dictcat ready <7@gems.test>\r\n210 0 databases\r\n";
-    let told = told_torn(alloc, desk)?;
+    let told = told_torn(rt, alloc, desk);
     same_text(rt, told.as_str(), want);
     drop(told);
-    Ok(())
 }
 
 const WHOLE: &str =
     "220 gems.test dictcat ready <7@gems.test>\r\n210 0 databases\r\n221 closing connection\r\n";
 
 /// A writer with each room that is too small ends a run, and has its front.
-pub(crate) fn fill_writers<D: Lookup>(
-    rt: &impl Abort,
-    alloc: Global,
-    desk: &mut D,
-) -> Result<(), AllocError> {
+pub(crate) fn fill_writers<D: Lookup>(rt: &impl Abort, alloc: Global, desk: &mut D) {
     for room in 0..WHOLE.len() {
-        let told = told_run(alloc, desk, "STATUS\r\nQUIT\r\n", room)?;
+        let told = told_run(rt, alloc, desk, "STATUS\r\nQUIT\r\n", room);
         let is_so = told.strip_prefix("Err(Write) ") == WHOLE.get(..room);
         drop(told);
         holds(rt, is_so, "a full writer");
     }
-    Ok(())
 }

@@ -4,7 +4,7 @@ use dict_desk::Keeper;
 use dict_fixtures::{GEM_INDEX, GEM_TEXT, ORE_INDEX, ORE_TEXT};
 use dict_index::{Edition, read_edition};
 use std::alloc::Global;
-use std::test::Fail;
+use std::process::Abort;
 
 /// A name, an index and a text.
 #[derive(Clone, Copy)]
@@ -36,34 +36,33 @@ pub(crate) const STONES: Files = Files(
 );
 
 /// Applies a command, and forgets its reply.
-pub(crate) fn apply<K: Keeper>(desk: &mut K, id: &str, command: &Command) -> Result<(), Fail> {
-    drop(desk.apply(id, command)?);
-    Ok(())
+pub(crate) fn apply<K: Keeper>(rt: &impl Abort, desk: &mut K, id: &str, command: &Command) {
+    drop(desk.apply(id, command).expect(rt, "a reply"));
 }
 
 // Installs an edition under the name, which is the request's id too.
-fn install<K: Keeper>(desk: &mut K, name: &str, edition: &Edition) -> Result<(), Fail> {
+fn install<K: Keeper>(rt: &impl Abort, desk: &mut K, name: &str, edition: &Edition) {
     let command = Command::Install { name, edition };
-    apply(desk, name, &command)
+    apply(rt, desk, name, &command);
 }
 
 // Installs the edition that the files say.
-fn install_files<K: Keeper>(alloc: Global, desk: &mut K, files: Files) -> Result<(), Fail> {
-    let edition = read_edition(alloc, files.1, files.2)?;
-    let end = install(desk, files.0, &edition);
+fn install_files<K: Keeper>(rt: &impl Abort, alloc: Global, desk: &mut K, files: Files) {
+    let edition = read_edition(alloc, files.1, files.2).expect(rt, "an edition");
+    install(rt, desk, files.0, &edition);
     drop(edition);
-    end
 }
 
 /// Installs these databases in their order, and puts `all`, which lists `ore` and `gem`, where it is asked.
 pub(crate) fn fill<K: Keeper>(
+    rt: &impl Abort,
     alloc: Global,
     desk: &mut K,
     databases: &[Files],
     has_all: bool,
-) -> Result<(), Fail> {
+) {
     for files in databases {
-        install_files(alloc, desk, *files)?;
+        install_files(rt, alloc, desk, *files);
     }
     if has_all {
         let command = Command::PutVirtual {
@@ -71,7 +70,6 @@ pub(crate) fn fill<K: Keeper>(
             title: "All",
             members: &["ore", "gem"],
         };
-        apply(desk, "put", &command)?;
+        apply(rt, desk, "put", &command);
     }
-    Ok(())
 }

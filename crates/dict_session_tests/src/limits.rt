@@ -4,22 +4,21 @@ use crate::files::apply;
 use crate::sessions::{Row, answer_rows, run_as};
 use dict_catalogue::Command;
 use dict_desk::{Fault, Keeper, Lookup};
-use std::alloc::{AllocError, Global};
+use std::alloc::Global;
 use std::process::Abort;
-use std::test::Fail;
 
-fn push_rest(line: &mut String, letters: usize) -> Result<(), AllocError> {
+fn push_rest(rt: &impl Abort, line: &mut String, letters: usize) {
     for _ in 0..letters {
-        line.push('x')?;
+        line.push('x').expect(rt, "memory");
     }
-    line.push_str("\r\nSTATUS\r\n")
+    line.push_str("\r\nSTATUS\r\n").expect(rt, "memory");
 }
 
 // A line of CLIENT with so many letters, and a STATUS.
-fn client_line(alloc: Global, letters: usize) -> Result<String, AllocError> {
-    let mut line = String::from_str(alloc, "CLIENT ")?;
-    push_rest(&mut line, letters)?;
-    Ok(line)
+fn client_line(rt: &impl Abort, alloc: Global, letters: usize) -> String {
+    let mut line = String::from_str(alloc, "CLIENT ").expect(rt, "memory");
+    push_rest(rt, &mut line, letters);
+    line
 }
 
 /// A run of that comes to this.
@@ -29,11 +28,10 @@ pub(crate) fn send_client<D: Lookup>(
     desk: &mut D,
     letters: usize,
     wanted: &str,
-) -> Result<(), AllocError> {
-    let line = client_line(alloc, letters)?;
-    let end = run_as(rt, alloc, desk, &line, wanted);
+) {
+    let line = client_line(rt, alloc, letters);
+    run_as(rt, alloc, desk, &line, wanted);
     drop(line);
-    end
 }
 
 /// The end of a run with a line of a lawful length.
@@ -70,14 +68,10 @@ fn is_listed<K: Keeper>(desk: &mut K, id: &str, name: &str) -> bool {
 }
 
 /// Retires all, that which lists others before them.
-pub(crate) fn retire_all<K: Keeper>(
-    rt: &impl Abort,
-    alloc: Global,
-    desk: &mut K,
-) -> Result<(), Fail> {
+pub(crate) fn retire_all<K: Keeper>(rt: &impl Abort, alloc: Global, desk: &mut K) {
     holds(rt, is_listed(desk, "r1", "gem"), "gem");
     for (id, name) in [("r2", "all"), ("r3", "gem"), ("r4", "ore")] {
-        apply(desk, id, &Command::Retire { name })?;
+        apply(rt, desk, id, &Command::Retire { name });
     }
-    Ok(answer_rows(rt, alloc, desk, &NONE_ROWS)?)
+    answer_rows(rt, alloc, desk, &NONE_ROWS);
 }

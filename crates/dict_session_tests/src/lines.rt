@@ -3,7 +3,6 @@ use crate::checks::{same_text, same_text_of};
 use dict_proto::{LineFault, Request, one_reading, parse_line, worked_lines, worked_meanings};
 use std::alloc::{AllocError, Global};
 use std::process::Abort;
-use std::test::Fail;
 
 // What a request asks for, as text: its words stand between bars.
 fn told_request(alloc: Global, request: &Request) -> Result<String, AllocError> {
@@ -27,30 +26,28 @@ fn told_reading(alloc: Global, read: &Result<Request, LineFault>) -> Result<Stri
 }
 
 // What a line asks for, or why it asks for nothing.
-fn told(alloc: Global, line: &[u8]) -> Result<String, AllocError> {
+fn told(rt: &impl Abort, alloc: Global, line: &[u8]) -> String {
     let read = parse_line(alloc, line);
-    let told = told_reading(alloc, &read);
+    let told = told_reading(alloc, &read).expect(rt, "memory");
     drop(read);
     told
 }
 
-fn ask(rt: &impl Abort, alloc: Global, rows: &[(&str, &str)]) -> Result<(), AllocError> {
+fn ask(rt: &impl Abort, alloc: Global, rows: &[(&str, &str)]) {
     for (line, wanted) in rows {
-        let told = told(alloc, line.as_bytes())?;
+        let told = told(rt, alloc, line.as_bytes());
         same_text_of(rt, told.as_str(), *wanted, line);
         drop(told);
     }
-    Ok(())
 }
 
 // These lines ask for nothing, for this cause.
-fn refuse(rt: &impl Abort, alloc: Global, lines: &[&[u8]], cause: &str) -> Result<(), AllocError> {
+fn refuse(rt: &impl Abort, alloc: Global, lines: &[&[u8]], cause: &str) {
     for line in lines {
-        let told = told(alloc, line)?;
+        let told = told(rt, alloc, line);
         same_text(rt, told.as_str(), cause);
         drop(told);
     }
-    Ok(())
 }
 
 static DEFINITIONS: [(&str, &str); 23] = [
@@ -192,22 +189,20 @@ static UNKNOWN: [&[u8]; 21] = [
 ];
 
 #[test]
-fn what_lines_ask_for(rt: HostRuntime) -> Result<(), Fail> {
+fn what_lines_ask_for(rt: HostRuntime) {
     one_reading();
     worked_lines();
     worked_meanings();
-    ask(&rt, rt.alloc(), &DEFINITIONS)?;
-    ask(&rt, rt.alloc(), &MATCHES)?;
-    ask(&rt, rt.alloc(), &OTHERS)?;
-    Ok(())
+    ask(&rt, rt.alloc(), &DEFINITIONS);
+    ask(&rt, rt.alloc(), &MATCHES);
+    ask(&rt, rt.alloc(), &OTHERS);
 }
 
 #[test]
-fn lines_that_ask_for_nothing(rt: HostRuntime) -> Result<(), Fail> {
-    refuse(&rt, rt.alloc(), &ILLEGAL, "IllegalParameters")?;
-    refuse(&rt, rt.alloc(), &LEFT_OUT, "NotImplemented")?;
-    refuse(&rt, rt.alloc(), &UNKNOWN, "NotRecognized")?;
-    Ok(())
+fn lines_that_ask_for_nothing(rt: HostRuntime) {
+    refuse(&rt, rt.alloc(), &ILLEGAL, "IllegalParameters");
+    refuse(&rt, rt.alloc(), &LEFT_OUT, "NotImplemented");
+    refuse(&rt, rt.alloc(), &UNKNOWN, "NotRecognized");
 }
 
 fn told_len(alloc: Global, line: &str) -> Result<String, AllocError> {
@@ -219,21 +214,22 @@ fn told_len(alloc: Global, line: &str) -> Result<String, AllocError> {
 }
 
 fn told_filled(
+    rt: &impl Abort,
     alloc: Global,
     line: &mut String,
     text: &str,
     count: usize,
-) -> Result<String, AllocError> {
+) -> String {
     for _ in 0..count {
-        line.push_str(text)?;
+        line.push_str(text).expect(rt, "memory");
     }
-    told_len(alloc, line.as_str())
+    told_len(alloc, line.as_str()).expect(rt, "memory")
 }
 
 // How many octets a front is with so many of a text behind it, and why that is no line, if it is none.
-fn told_long(alloc: Global, front: &str, text: &str, count: usize) -> Result<String, AllocError> {
-    let mut line = String::from_str(alloc, front)?;
-    let told = told_filled(alloc, &mut line, text, count);
+fn told_long(rt: &impl Abort, alloc: Global, front: &str, text: &str, count: usize) -> String {
+    let mut line = String::from_str(alloc, front).expect(rt, "memory");
+    let told = told_filled(rt, alloc, &mut line, text, count);
     drop(line);
     told
 }
@@ -249,11 +245,10 @@ static LONG: [(&str, &str, usize, &str); 6] = [
 ];
 
 #[test]
-fn long_lines(rt: HostRuntime) -> Result<(), Fail> {
+fn long_lines(rt: HostRuntime) {
     for (front, text, count, wanted) in &LONG {
-        let told = told_long(rt.alloc(), front, text, *count)?;
+        let told = told_long(&rt, rt.alloc(), front, text, *count);
         same_text(&rt, told.as_str(), *wanted);
         drop(told);
     }
-    Ok(())
 }

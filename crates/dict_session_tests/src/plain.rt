@@ -8,7 +8,6 @@ use dict_proto::{LimitedSink, OverRead};
 use std::alloc::Global;
 use std::io::{Error, ErrorKind, Read, Result as IoResult};
 use std::process::Abort;
-use std::test::Fail;
 
 /// A database's name, its index and its text.
 type Database = (&'static str, &'static [u8], &'static [u8]);
@@ -99,58 +98,67 @@ fn run_over(
 
 // The same over a database. The fault that it ends by, if it does.
 fn end_over(
+    rt: &impl Abort,
     alloc: Global,
     database: Database,
     pieces: Pieces<'_>,
     writer: &mut LimitedSink,
-) -> Result<String, Fail> {
+) -> String {
     let (name, index, text) = database;
-    let index = Vec::from_slice(alloc, index)?;
-    let text = Vec::from_slice(alloc, text)?;
+    let index = Vec::from_slice(alloc, index).expect(rt, "memory");
+    let text = Vec::from_slice(alloc, text).expect(rt, "memory");
     match run_over(alloc, name, index, text, pieces, writer) {
-        Ok(()) => Ok(String::new(alloc)),
-        Err(fault) => Ok(format!(in alloc; "!{fault}")?),
+        Ok(()) => String::new(alloc),
+        Err(fault) => format!(in alloc; "!{fault}").expect(rt, "memory"),
     }
 }
 
 // What a sink took, as text.
-fn taken(alloc: Global, sink: &LimitedSink) -> Result<String, Fail> {
-    String::from_utf8(sink.taken().to_vec(alloc)?).map_err(|_| Fail::from("no text"))
+fn taken(rt: &impl Abort, alloc: Global, sink: &LimitedSink) -> String {
+    let octets = sink.taken().to_vec(alloc).expect(rt, "memory");
+    String::from_utf8(octets).expect(rt, "a text")
 }
 
 // What a session over a database writes to a sink with this room, and behind it a fault that it ends by.
 fn session(
+    rt: &impl Abort,
     alloc: Global,
     database: Database,
     pieces: Pieces<'_>,
     room: usize,
-) -> Result<String, Fail> {
-    let mut writer = LimitedSink::new(alloc, room)?;
-    let end = end_over(alloc, database, pieces, &mut writer)?;
-    let mut written = taken(alloc, &writer)?;
-    written.push_str(end.as_str())?;
-    Ok(written)
+) -> String {
+    let mut writer = LimitedSink::new(alloc, room).expect(rt, "a sink");
+    let end = end_over(rt, alloc, database, pieces, &mut writer);
+    let mut written = taken(rt, alloc, &writer);
+    drop(writer);
+    written.push_str(end.as_str()).expect(rt, "memory");
+    drop(end);
+    written
 }
 
 // Whether a session with this input, cut so, writes its greeting and this answer.
 fn is_answered(
+    rt: &impl Abort,
     alloc: Global,
     database: Database,
     pieces: Pieces<'_>,
     answer: &str,
-) -> Result<bool, Fail> {
-    let written = session(alloc, database, pieces, 1000)?;
-    Ok(written.as_str().strip_prefix(BANNER) == Some(answer))
+) -> bool {
+    let written = session(rt, alloc, database, pieces, 1000);
+    let is_so = written.as_str().strip_prefix(BANNER) == Some(answer);
+    drop(written);
+    is_so
 }
 
 // The size of the first piece with which an input is answered otherwise, if there is one, where the next have this size.
 fn cut_where(
+    rt: &impl Abort,
     alloc: Global,
     database: Database,
     input: &str,
     next_size: usize,
     answer: &str,
-) -> Result<Option<usize>, Fail> {
+) -> Option<usize> {
     for size in 1..=input.len().max(1) {
         let pieces = Pieces {
             rest: input.as_bytes(),
@@ -158,23 +166,24 @@ fn cut_where(
             next_size,
             fails: false,
         };
-        if !is_answered(alloc, database, pieces, answer)? {
-            return Ok(Some(size));
+        if !is_answered(rt, alloc, database, pieces, answer) {
+            return Some(size);
         }
     }
-    Ok(None)
+    None
 }
 
 // The same where the next have one octet, and where they have all that are left.
 fn cut_anywhere(
+    rt: &impl Abort,
     alloc: Global,
     database: Database,
     input: &str,
     answer: &str,
-) -> Result<Option<usize>, Fail> {
-    match cut_where(alloc, database, input, 1, answer)? {
-        None => cut_where(alloc, database, input, 1000, answer),
-        found => Ok(found),
+) -> Option<usize> {
+    match cut_where(rt, alloc, database, input, 1, answer) {
+        None => cut_where(rt, alloc, database, input, 1000, answer),
+        found => found,
     }
 }
 
@@ -258,12 +267,11 @@ static ANSWERS: [(Database, &str, &str); 37] = [
     (PLUS, "DEFINE gem2 -\r\n", NO_MATCH),
 ];
 
-fn answers_in_any_pieces(test: &impl Abort, rt: &HostRuntime) -> Result<(), Fail> {
+fn answers_in_any_pieces(rt: &impl Abort, alloc: Global) {
     for (database, input, answer) in &ANSWERS {
-        let found = cut_anywhere(rt.alloc(), *database, *input, *answer)?;
-        holds(test, found.is_none(), input);
+        let found = cut_anywhere(rt, alloc, *database, *input, *answer);
+        holds(rt, found.is_none(), input);
     }
-    Ok(())
 }
 
 // The reader fails after QUIT, and in the middle of a line.
@@ -278,10 +286,7 @@ static FAILING: [(&str, &str); 2] = [
     ),
 ];
 
-fn a_line_is_answered_before_the_next_piece_is_read(
-    test: &impl Abort,
-    rt: &HostRuntime,
-) -> Result<(), Fail> {
+fn a_line_is_answered_before_the_next_piece_is_read(rt: &impl Abort, alloc: Global) {
     for (input, answer) in &FAILING {
         let pieces = Pieces {
             rest: input.as_bytes(),
@@ -289,42 +294,40 @@ fn a_line_is_answered_before_the_next_piece_is_read(
             next_size: 6,
             fails: true,
         };
-        holds(test, is_answered(rt.alloc(), GEM, pieces, *answer)?, input);
+        holds(rt, is_answered(rt, alloc, GEM, pieces, *answer), input);
     }
-    Ok(())
 }
 
 const WHOLE: &str =
     "220 localhost dictcat ready <1@localhost>\r\n150 1 definitions retrieved\r\n151 \"opal\" gem \"Gems\"\r\nopal\r\n  a stone\r\n.\r\n250 ok\r\n221 closing connection\r\n";
 
 // What a session of two lines writes to a sink with this room.
-fn into_room(alloc: Global, room: usize) -> Result<String, Fail> {
+fn into_room(rt: &impl Abort, alloc: Global, room: usize) -> String {
     let pieces = Pieces {
         rest: b"DEFINE gem opal\r\nQUIT\r\n",
         size: 1000,
         next_size: 1000,
         fails: false,
     };
-    session(alloc, GEM, pieces, room)
+    session(rt, alloc, GEM, pieces, room)
 }
 
-fn a_full_sink_ends_the_session(test: &impl Abort, rt: &HostRuntime) -> Result<(), Fail> {
+fn a_full_sink_ends_the_session(rt: &impl Abort, alloc: Global) {
     for room in 0..WHOLE.len() {
-        let written = into_room(rt.alloc(), room)?;
+        let written = into_room(rt, alloc, room);
         let begun = written.as_str().strip_suffix("!session ended by a fault");
-        holds(
-            test,
-            begun.is_some() && begun == WHOLE.get(..room),
-            "a front",
-        );
+        let is_so = begun.is_some() && begun == WHOLE.get(..room);
+        drop(written);
+        holds(rt, is_so, "a front");
     }
-    same_text(test, into_room(rt.alloc(), WHOLE.len())?.as_str(), WHOLE);
-    Ok(())
+    let written = into_room(rt, alloc, WHOLE.len());
+    same_text(rt, written.as_str(), WHOLE);
+    drop(written);
 }
 
 #[test]
-fn plain_sessions_are_held(rt: HostRuntime) -> Result<(), Fail> {
-    answers_in_any_pieces(&rt, &rt)?;
-    a_line_is_answered_before_the_next_piece_is_read(&rt, &rt)?;
-    a_full_sink_ends_the_session(&rt, &rt)
+fn plain_sessions_are_held(rt: HostRuntime) {
+    answers_in_any_pieces(&rt, rt.alloc());
+    a_line_is_answered_before_the_next_piece_is_read(&rt, rt.alloc());
+    a_full_sink_ends_the_session(&rt, rt.alloc());
 }

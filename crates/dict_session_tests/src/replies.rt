@@ -1,35 +1,31 @@
 //! The octets of each reply.
 use crate::checks::holds;
 use dict_proto::{
-    LimitedSink, OverWrite, Reply, Sink, SinkFault, list_is_a_block, put_all, put_quoted,
+    LimitedSink, OverWrite, Reply, Sink, list_is_a_block, put_all, put_quoted,
     reply_lines_are_short, write_reply,
 };
-use std::alloc::{AllocError, Global};
+use std::alloc::Global;
 use std::process::Abort;
-use std::test::Fail;
 
 // What a reply puts.
-fn octets_of(alloc: Global, reply: &Reply) -> Result<Vec<u8>, Fail> {
+fn octets_of(rt: &impl Abort, alloc: Global, reply: &Reply) -> Vec<u8> {
     let mut sink = OverWrite::new(Vec::new(alloc));
-    let put = write_reply(&mut sink, reply);
-    let octets = sink.into_inner();
-    put?;
-    Ok(octets)
+    write_reply(&mut sink, reply).expect(rt, "a reply");
+    sink.into_inner()
 }
 
 // Whether a reply puts this text.
-fn puts(alloc: Global, reply: &Reply, text: &str) -> Result<bool, Fail> {
-    let octets = octets_of(alloc, reply)?;
+fn puts(rt: &impl Abort, alloc: Global, reply: &Reply, text: &str) -> bool {
+    let octets = octets_of(rt, alloc, reply);
     let is_so = octets.as_slice() == text.as_bytes();
     drop(octets);
-    Ok(is_so)
+    is_so
 }
 
-fn put_rows(rt: &impl Abort, alloc: Global, rows: &[(Reply, &str)]) -> Result<(), Fail> {
+fn put_rows(rt: &impl Abort, alloc: Global, rows: &[(Reply, &str)]) {
     for (reply, text) in rows {
-        holds(rt, puts(alloc, reply, text)?, text);
+        holds(rt, puts(rt, alloc, reply, text), text);
     }
-    Ok(())
 }
 
 static NUMBERS: [(Reply<'static>, &str); 11] = [
@@ -187,7 +183,7 @@ static INFOS: [(Reply<'static>, &str); 3] = [
 ];
 
 #[test]
-fn replies_and_texts(rt: HostRuntime) -> Result<(), Fail> {
+fn replies_and_texts(rt: HostRuntime) {
     reply_lines_are_short();
     list_is_a_block();
     for rows in [
@@ -197,65 +193,61 @@ fn replies_and_texts(rt: HostRuntime) -> Result<(), Fail> {
         DEFINITIONS.as_slice(),
         INFOS.as_slice(),
     ] {
-        put_rows(&rt, rt.alloc(), rows)?;
+        put_rows(&rt, rt.alloc(), rows);
     }
-    Ok(())
 }
 
 // A text of so many letters, and two lines more.
-fn push_long(text: &mut String, letters: usize, more: &str) -> Result<(), AllocError> {
+fn push_long(rt: &impl Abort, text: &mut String, letters: usize, more: &str) {
     for _ in 0..letters {
-        text.push('x')?;
+        text.push('x').expect(rt, "memory");
     }
-    text.push_str(more)
+    text.push_str(more).expect(rt, "memory");
 }
 
-fn long_text(alloc: Global, letters: usize, more: &str) -> Result<String, AllocError> {
+fn long_text(rt: &impl Abort, alloc: Global, letters: usize, more: &str) -> String {
     let mut text = String::new(alloc);
-    push_long(&mut text, letters, more)?;
-    Ok(text)
+    push_long(rt, &mut text, letters, more);
+    text
 }
 
-fn puts_text(alloc: Global, letters: usize, text: &str) -> Result<bool, Fail> {
-    let body = long_text(alloc, letters, "\n.y\n")?;
-    let is_so = puts(alloc, &Reply::InfoText(body.as_bytes()), text);
+fn puts_text(rt: &impl Abort, alloc: Global, letters: usize, text: &str) -> bool {
+    let body = long_text(rt, alloc, letters, "\n.y\n");
+    let is_so = puts(rt, alloc, &Reply::InfoText(body.as_bytes()), text);
     drop(body);
     is_so
 }
 
-fn puts_long(alloc: Global, letters: usize) -> Result<bool, Fail> {
-    let text = long_text(alloc, letters, "\r\n..y\r\n.\r\n")?;
-    let is_so = puts_text(alloc, letters, text.as_str());
+fn puts_long(rt: &impl Abort, alloc: Global, letters: usize) -> bool {
+    let text = long_text(rt, alloc, letters, "\r\n..y\r\n.\r\n");
+    let is_so = puts_text(rt, alloc, letters, text.as_str());
     drop(text);
     is_so
 }
 
 // Lines about as long as what is gathered at once, and longer.
 #[test]
-fn long_texts(rt: HostRuntime) -> Result<(), Fail> {
+fn long_texts(rt: HostRuntime) {
     for letters in [1017, 1018, 1019, 1020, 1021, 1022, 1023, 1024, 1025, 3000] {
-        holds(&rt, puts_long(rt.alloc(), letters)?, "a long text");
+        holds(&rt, puts_long(&rt, rt.alloc(), letters), "a long text");
     }
-    Ok(())
 }
 
-fn quote(sink: &mut OverWrite<Vec<u8>>) -> Result<(), SinkFault> {
-    put_quoted(sink, "Gems")?;
-    put_all(sink, &[b" ", b"-", b" "])?;
-    put_quoted(sink, "say \"a\\b\"")?;
-    sink.put(b"\r\n")
+fn quote(rt: &impl Abort, sink: &mut OverWrite<Vec<u8>>) {
+    put_quoted(sink, "Gems").expect(rt, "a quote");
+    put_all(sink, &[b" ", b"-", b" "]).expect(rt, "memory");
+    put_quoted(sink, "say \"a\\b\"").expect(rt, "a quote");
+    sink.put(b"\r\n").expect(rt, "memory");
 }
 
 #[test]
-fn quotes(rt: HostRuntime) -> Result<(), Fail> {
+fn quotes(rt: HostRuntime) {
     let mut sink = OverWrite::new(Vec::new(rt.alloc()));
-    let put = quote(&mut sink);
+    quote(&rt, &mut sink);
     let octets = sink.into_inner();
     let is_so = octets.as_slice() == b"\"Gems\" - \"say \\\"a\\\\b\\\"\"\r\n".as_slice();
     drop(octets);
-    put?;
     holds(&rt, is_so, "quotes");
-    Ok(())
 }
 
 static WHOLE: [(Reply<'static>, &str); 4] = [
@@ -286,23 +278,22 @@ static WHOLE: [(Reply<'static>, &str); 4] = [
 ];
 
 // Whether a sink with this room takes as much of a reply as it has room for, and the reply says whether it took all.
-fn is_put_within(alloc: Global, reply: &Reply, text: &str, room: usize) -> Result<bool, Fail> {
-    let mut sink = LimitedSink::new(alloc, room)?;
+fn is_put_within(rt: &impl Abort, alloc: Global, reply: &Reply, text: &str, room: usize) -> bool {
+    let mut sink = LimitedSink::new(alloc, room).expect(rt, "a sink");
     let is_ok = write_reply(&mut sink, reply).is_ok();
     let front = text.get(..room).unwrap_or(text);
     let is_so = is_ok == (room >= text.len()) && sink.taken() == front.as_bytes();
     drop(sink);
-    Ok(is_so)
+    is_so
 }
 
 // A sink with room for k octets takes the first k, and the reply is Ok only with room for all.
 #[test]
-fn a_sink_with_little_room(rt: HostRuntime) -> Result<(), Fail> {
+fn a_sink_with_little_room(rt: HostRuntime) {
     for (reply, text) in &WHOLE {
         for room in 0..text.len() + 2 {
-            let is_so = is_put_within(rt.alloc(), reply, text, room)?;
+            let is_so = is_put_within(&rt, rt.alloc(), reply, text, room);
             holds(&rt, is_so, text);
         }
     }
-    Ok(())
 }

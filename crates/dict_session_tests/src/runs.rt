@@ -7,9 +7,8 @@ use crate::sessions::{
     ALL_ROWS, BOTH_ROWS, EMPTY_ROWS, Row, STONES_ROWS, answer_rows, break_off, greet,
 };
 use dict_desk::{Keeper, Lookup, PlainDesk};
-use std::alloc::{AllocError, Global};
+use std::alloc::Global;
 use std::process::Abort;
-use std::test::Fail;
 
 /// What is done.
 #[derive(Clone, Copy)]
@@ -42,49 +41,38 @@ static CASES: [Case<'static>; 9] = [
 ];
 
 // What changes nothing.
-fn run_plain<D: Lookup>(
-    rt: &impl Abort,
-    alloc: Global,
-    desk: &mut D,
-    run: Run,
-) -> Result<(), AllocError> {
+fn run_plain<D: Lookup>(rt: &impl Abort, alloc: Global, desk: &mut D, run: Run) {
     match run {
         Run::Rows(rows) => answer_rows(rt, alloc, desk, rows),
         Run::BreakOff => break_off(rt, alloc, desk),
         Run::Greet => greet(rt, alloc, desk),
-        Run::Retire => Ok(()),
+        Run::Retire => {}
         Run::Tear => tear(rt, alloc, desk),
         Run::FillWriters => fill_writers(rt, alloc, desk),
         Run::Client(letters, wanted) => send_client(rt, alloc, desk, letters, wanted),
     }
 }
 
-fn run_one<K: Keeper>(rt: &impl Abort, alloc: Global, desk: &mut K, run: Run) -> Result<(), Fail> {
+fn run_one<K: Keeper>(rt: &impl Abort, alloc: Global, desk: &mut K, run: Run) {
     match run {
         Run::Retire => retire_all(rt, alloc, desk),
-        _ => Ok(run_plain(rt, alloc, desk, run)?),
+        _ => run_plain(rt, alloc, desk, run),
     }
 }
 
-fn fill_and_run<K: Keeper>(
-    rt: &impl Abort,
-    alloc: Global,
-    desk: &mut K,
-    case: &Case,
-) -> Result<(), Fail> {
-    fill(alloc, desk, case.0, case.1)?;
-    run_one(rt, alloc, desk, case.2)
+fn fill_and_run<K: Keeper>(rt: &impl Abort, alloc: Global, desk: &mut K, case: &Case) {
+    fill(rt, alloc, desk, case.0, case.1);
+    run_one(rt, alloc, desk, case.2);
 }
 
-fn run_anew(rt: &impl Abort, alloc: Global, case: &Case) -> Result<(), Fail> {
+fn run_anew(rt: &impl Abort, alloc: Global, case: &Case) {
     let mut desk = PlainDesk::new(alloc);
-    let end = fill_and_run(rt, alloc, &mut desk, case);
+    fill_and_run(rt, alloc, &mut desk, case);
     drop(desk);
-    end
 }
 
 #[test]
-fn sessions_over_catalogues(rt: HostRuntime) -> Result<(), Fail> {
+fn sessions_over_catalogues(rt: HostRuntime) {
     for (databases, has_all, rows) in [
         ([STONES].as_slice(), false, STONES_ROWS.as_slice()),
         ([ORE, GEM].as_slice(), true, ALL_ROWS.as_slice()),
@@ -94,10 +82,9 @@ fn sessions_over_catalogues(rt: HostRuntime) -> Result<(), Fail> {
         ([EDGE].as_slice(), false, EDGE_ROWS.as_slice()),
     ] {
         let case = Case(databases, has_all, Run::Rows(rows));
-        run_anew(&rt, rt.alloc(), &case)?;
+        run_anew(&rt, rt.alloc(), &case);
     }
     for case in &CASES {
-        run_anew(&rt, rt.alloc(), case)?;
+        run_anew(&rt, rt.alloc(), case);
     }
-    Ok(())
 }

@@ -6,7 +6,7 @@ use dict_session::{
     Session, Step, broken_is_a_front, is_host, one_cut, run, session_lines_are_short,
     spoken_answers, spoken_or_unavailable,
 };
-use std::alloc::{AllocError, Global};
+use std::alloc::Global;
 use std::process::Abort;
 
 /// What a client sends, whether a QUIT in it is answered, and the answers.
@@ -151,38 +151,41 @@ pub(crate) fn text_of(sink: &LimitedSink) -> &str {
 
 // How a run ends, and all that it writes into this sink.
 fn told_into<S: Source, D: Lookup>(
+    rt: &impl Abort,
     alloc: Global,
     reader: &mut S,
     desk: &mut D,
     writer: &mut LimitedSink,
-) -> Result<String, AllocError> {
+) -> String {
     let end = run(alloc, reader, writer, desk, "gems.test", 7);
     let written = text_of(writer);
-    format!(in alloc; "{end:?} {written}")
+    format!(in alloc; "{end:?} {written}").expect(rt, "memory")
 }
 
 /// How a run ends, and all that it writes into a sink with this room.
 pub(crate) fn told_of_run<S: Source, D: Lookup>(
+    rt: &impl Abort,
     alloc: Global,
     reader: &mut S,
     desk: &mut D,
     room: usize,
-) -> Result<String, AllocError> {
-    let mut writer = LimitedSink::new(alloc, room)?;
-    let told = told_into(alloc, reader, desk, &mut writer);
+) -> String {
+    let mut writer = LimitedSink::new(alloc, room).expect(rt, "a sink");
+    let told = told_into(rt, alloc, reader, desk, &mut writer);
     drop(writer);
     told
 }
 
 /// The same of a run of this input.
 pub(crate) fn told_run<D: Lookup>(
+    rt: &impl Abort,
     alloc: Global,
     desk: &mut D,
     input: &str,
     room: usize,
-) -> Result<String, AllocError> {
+) -> String {
     let mut reader = OverRead::new(input.as_bytes());
-    told_of_run(alloc, &mut reader, desk, room)
+    told_of_run(rt, alloc, &mut reader, desk, room)
 }
 
 /// A run of this input comes to this.
@@ -192,30 +195,22 @@ pub(crate) fn run_as<D: Lookup>(
     desk: &mut D,
     input: &str,
     wanted: &str,
-) -> Result<(), AllocError> {
-    let told = told_run(alloc, desk, input, 1000)?;
+) {
+    let told = told_run(rt, alloc, desk, input, 1000);
     same_text(rt, told.as_str(), wanted);
     drop(told);
-    Ok(())
 }
 
 // Runs the rows whole.
-fn run_rows<D: Lookup>(
-    rt: &impl Abort,
-    alloc: Global,
-    desk: &mut D,
-    rows: &[Row],
-) -> Result<(), AllocError> {
+fn run_rows<D: Lookup>(rt: &impl Abort, alloc: Global, desk: &mut D, rows: &[Row]) {
     for (input, is_over, answers) in rows {
         let end = if *is_over { "Quit" } else { "InputEnd" };
         let want = format!(in alloc;
             "Ok({end}) 220 gems.test dictcat ready <7@gems.test>\r\n{answers}"
-        )?;
-        let end = run_as(rt, alloc, desk, input, want.as_str());
+        ).expect(rt, "memory");
+        run_as(rt, alloc, desk, input, want.as_str());
         drop(want);
-        end?;
     }
-    Ok(())
 }
 
 fn feed_piece<D: Lookup>(
@@ -245,38 +240,41 @@ fn feed<D: Lookup>(
 }
 
 fn feed_new<D: Lookup>(
+    rt: &impl Abort,
     alloc: Global,
     desk: &mut D,
     pieces: (&[u8], &[u8], &[u8]),
     sink: &mut LimitedSink,
-) -> Result<Step, AllocError> {
-    let mut session = Session::new(alloc, "gems.test", 7)?;
+) -> Step {
+    let mut session = Session::new(alloc, "gems.test", 7).expect(rt, "a session");
     let step = feed(alloc, &mut session, desk, pieces, sink);
     drop(session);
-    Ok(step)
+    step
 }
 
 fn told_feed_into<D: Lookup>(
+    rt: &impl Abort,
     alloc: Global,
     desk: &mut D,
     pieces: (&[u8], &[u8], &[u8]),
     sink: &mut LimitedSink,
-) -> Result<String, AllocError> {
-    let step = feed_new(alloc, desk, pieces, sink)?;
+) -> String {
+    let step = feed_new(rt, alloc, desk, pieces, sink);
     let written = text_of(sink);
-    format!(in alloc; "{step:?} {written}")
+    format!(in alloc; "{step:?} {written}").expect(rt, "memory")
 }
 
 /// What a new session comes to by two pieces and then other octets one by one, and what it writes into a sink with this
 /// room; after a QUIT or a fault of the sink each octet comes to the same.
 pub(crate) fn told_feed<D: Lookup>(
+    rt: &impl Abort,
     alloc: Global,
     desk: &mut D,
     pieces: (&[u8], &[u8], &[u8]),
     room: usize,
-) -> Result<String, AllocError> {
-    let mut sink = LimitedSink::new(alloc, room)?;
-    let told = told_feed_into(alloc, desk, pieces, &mut sink);
+) -> String {
+    let mut sink = LimitedSink::new(alloc, room).expect(rt, "a sink");
+    let told = told_feed_into(rt, alloc, desk, pieces, &mut sink);
     drop(sink);
     told
 }
@@ -287,55 +285,35 @@ fn feed_as<D: Lookup>(
     desk: &mut D,
     pieces: (&[u8], &[u8], &[u8]),
     want: &str,
-) -> Result<(), AllocError> {
-    let told = told_feed(alloc, desk, pieces, 1000)?;
+) {
+    let told = told_feed(rt, alloc, desk, pieces, 1000);
     same_text(rt, told.as_str(), want);
     drop(told);
-    Ok(())
 }
 
 // Feeds a row octet by octet, and cut in two at each place.
-fn feed_pieces<D: Lookup>(
-    rt: &impl Abort,
-    alloc: Global,
-    desk: &mut D,
-    input: &[u8],
-    want: &str,
-) -> Result<(), AllocError> {
-    feed_as(rt, alloc, desk, (b"", b"", input), want)?;
+fn feed_pieces<D: Lookup>(rt: &impl Abort, alloc: Global, desk: &mut D, input: &[u8], want: &str) {
+    feed_as(rt, alloc, desk, (b"", b"", input), want);
     for place in 0..=input.len() {
         let (first, second) = input.split_at(place);
-        feed_as(rt, alloc, desk, (first, second, b""), want)?;
+        feed_as(rt, alloc, desk, (first, second, b""), want);
     }
-    Ok(())
 }
 
 // Feeds the rows octet by octet, and cut in two at each place.
-fn feed_rows<D: Lookup>(
-    rt: &impl Abort,
-    alloc: Global,
-    desk: &mut D,
-    rows: &[Row],
-) -> Result<(), AllocError> {
+fn feed_rows<D: Lookup>(rt: &impl Abort, alloc: Global, desk: &mut D, rows: &[Row]) {
     for (input, is_over, answers) in rows {
         let step = if *is_over { "Quit" } else { "More" };
-        let want = format!(in alloc; "{step} {answers}")?;
-        let end = feed_pieces(rt, alloc, desk, input.as_bytes(), want.as_str());
+        let want = format!(in alloc; "{step} {answers}").expect(rt, "memory");
+        feed_pieces(rt, alloc, desk, input.as_bytes(), want.as_str());
         drop(want);
-        end?;
     }
-    Ok(())
 }
 
 /// Runs the rows whole, and feeds them octet by octet and cut in two at each place.
-pub(crate) fn answer_rows<D: Lookup>(
-    rt: &impl Abort,
-    alloc: Global,
-    desk: &mut D,
-    rows: &[Row],
-) -> Result<(), AllocError> {
-    run_rows(rt, alloc, desk, rows)?;
-    feed_rows(rt, alloc, desk, rows)
+pub(crate) fn answer_rows<D: Lookup>(rt: &impl Abort, alloc: Global, desk: &mut D, rows: &[Row]) {
+    run_rows(rt, alloc, desk, rows);
+    feed_rows(rt, alloc, desk, rows);
 }
 
 /// Over `stones` and `gem`.
@@ -353,80 +331,74 @@ pub(crate) static BOTH_ROWS: [Row; 2] = [
 ];
 
 /// A full sink breaks a list off.
-pub(crate) fn break_off<D: Lookup>(
-    rt: &impl Abort,
-    alloc: Global,
-    desk: &mut D,
-) -> Result<(), AllocError> {
+pub(crate) fn break_off<D: Lookup>(rt: &impl Abort, alloc: Global, desk: &mut D) {
     for room in 0..ALL_STONES.len() {
         let pieces = (
             b"MATCH stones substring a\r".as_slice(),
             b"\n".as_slice(),
             b"STATUS\r\n".as_slice(),
         );
-        let told = told_feed(alloc, desk, pieces, room)?;
+        let told = told_feed(rt, alloc, desk, pieces, room);
         let is_so = told.strip_prefix("Broken ") == ALL_STONES.get(..room);
         drop(told);
         holds(rt, is_so, "a full sink");
     }
-    Ok(())
 }
 
 // What a session comes to by its greeting into one sink, and what comes to another by a second greeting and a line.
 fn told_both<D: Lookup>(
+    rt: &impl Abort,
     alloc: Global,
     session: &mut Session,
     desk: &mut D,
     full: &mut LimitedSink,
     other: &mut LimitedSink,
-) -> Result<String, AllocError> {
+) -> String {
     let first = session.greet(full);
     let second = session.greet(other);
     let third = feed_piece(alloc, session, desk, b"STATUS\r\n", other);
     let (written, more) = (text_of(full), text_of(other));
-    format!(in alloc; "{first:?} {written} {second:?} {third:?} {more}")
+    let told = format!(in alloc; "{first:?} {written} {second:?} {third:?} {more}");
+    told.expect(rt, "memory")
 }
 
 fn told_greeting<D: Lookup>(
+    rt: &impl Abort,
     alloc: Global,
     desk: &mut D,
     full: &mut LimitedSink,
     other: &mut LimitedSink,
-) -> Result<String, AllocError> {
-    let mut session = Session::new(alloc, "gems.test", 7)?;
-    let told = told_both(alloc, &mut session, desk, full, other);
+) -> String {
+    let mut session = Session::new(alloc, "gems.test", 7).expect(rt, "a session");
+    let told = told_both(rt, alloc, &mut session, desk, full, other);
     drop(session);
     told
 }
 
 fn greet_into<D: Lookup>(
+    rt: &impl Abort,
     alloc: Global,
     desk: &mut D,
     full: &mut LimitedSink,
-) -> Result<String, AllocError> {
-    let mut other = LimitedSink::new(alloc, 1000)?;
-    let told = told_greeting(alloc, desk, full, &mut other);
+) -> String {
+    let mut other = LimitedSink::new(alloc, 1000).expect(rt, "a sink");
+    let told = told_greeting(rt, alloc, desk, full, &mut other);
     drop(other);
     told
 }
 
-fn told_greet<D: Lookup>(alloc: Global, desk: &mut D) -> Result<String, AllocError> {
-    let mut full = LimitedSink::new(alloc, 3)?;
-    let told = greet_into(alloc, desk, &mut full);
+fn told_greet<D: Lookup>(rt: &impl Abort, alloc: Global, desk: &mut D) -> String {
+    let mut full = LimitedSink::new(alloc, 3).expect(rt, "a sink");
+    let told = greet_into(rt, alloc, desk, &mut full);
     drop(full);
     told
 }
 
 /// A full sink breaks the greeting off: it has room for three octets.
-pub(crate) fn greet<D: Lookup>(
-    rt: &impl Abort,
-    alloc: Global,
-    desk: &mut D,
-) -> Result<(), AllocError> {
-    let told = told_greet(alloc, desk)?;
+pub(crate) fn greet<D: Lookup>(rt: &impl Abort, alloc: Global, desk: &mut D) {
+    let told = told_greet(rt, alloc, desk);
     same_text(rt, told.as_str(), "Broken 220 Broken Broken ");
     drop(told);
-    Ok(())
 }
 
 #[test]

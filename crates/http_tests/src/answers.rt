@@ -7,7 +7,6 @@ use http_service::{Answer, Need, Service, Status, need};
 use memchr::memmem;
 use std::alloc::Global;
 use std::process::Abort;
-use std::test::Fail;
 
 const NOT_FOUND: &str =
     "HTTP/1.1 404 Not Found\r\nContent-Type: application/json\r\nContent-Length: 21\r\nConnection: close\r\n\r\n{\"error\":\"not found\"}";
@@ -58,44 +57,44 @@ static WHOLE: [&str; 11] = [
 ];
 
 // Whether the answer's `Content-Length` is the length of its body.
-fn is_framed(alloc: Global, answer: &[u8]) -> Result<bool, Fail> {
+fn is_framed(rt: &impl Abort, alloc: Global, answer: &[u8]) -> bool {
     let Some(end) = memmem::find(answer, b"\r\n\r\n") else {
-        return Ok(false);
+        return false;
     };
     let len = answer.len().saturating_sub(end).saturating_sub(4);
-    let line = format!(in alloc; "\r\nContent-Length: {len}\r\n")?;
-    Ok(memmem::find(answer, line.as_bytes()).is_some())
+    let line = format!(in alloc; "\r\nContent-Length: {len}\r\n").expect(rt, "memory");
+    memmem::find(answer, line.as_bytes()).is_some()
 }
 
 #[test]
-fn lengths_of_bodies(rt: HostRuntime) -> Result<(), Fail> {
+fn lengths_of_bodies(rt: HostRuntime) {
     for answer in &WHOLE {
-        holds(&rt, is_framed(rt.alloc(), answer.as_bytes())?, answer);
+        holds(&rt, is_framed(&rt, rt.alloc(), answer.as_bytes()), answer);
     }
-    Ok(())
 }
 
 /// What a request is answered that is whole or refused.
 pub(crate) fn told<K: Preparer>(
+    rt: &impl Abort,
     alloc: Global,
     desk: &mut K,
     request: &[u8],
-) -> Result<String, Fail> {
+) -> String {
     if let Need::More = need(request) {
-        return Ok(String::from_str(alloc, "more is needed")?);
+        return String::from_str(alloc, "more is needed").expect(rt, "memory");
     }
-    let service = Service::new(alloc)?;
+    let service = Service::new(alloc).expect(rt, "a service");
     let answer = service.respond(alloc, request, desk);
     let text = str::from_utf8(answer.octets()).unwrap_or("not UTF-8");
-    Ok(String::from_str(alloc, text)?)
+    String::from_str(alloc, text).expect(rt, "memory")
 }
 
 /// The octets of an answer with this status and this body.
-pub(crate) fn response(alloc: Global, status: &str, body: &str) -> Result<String, Fail> {
+pub(crate) fn response(rt: &impl Abort, alloc: Global, status: &str, body: &str) -> String {
     let len = body.len();
-    Ok(format!(in alloc;
+    format!(in alloc;
         "HTTP/1.1 {status}\r\nContent-Type: application/json\r\nContent-Length: {len}\r\nConnection: close\r\n\r\n{body}"
-    )?)
+    ).expect(rt, "memory")
 }
 
 static REFUSED: [(&str, &str); 8] = [
@@ -147,37 +146,31 @@ static DONE: [(&str, &str); 7] = [
 ];
 
 // Sends requests one after the other.
-fn send<K: Preparer>(
-    rt: &impl Abort,
-    alloc: Global,
-    desk: &mut K,
-    rows: &[(&str, &str)],
-) -> Result<(), Fail> {
+fn send<K: Preparer>(rt: &impl Abort, alloc: Global, desk: &mut K, rows: &[(&str, &str)]) {
     for (request, answer) in rows {
         same_text_of(
             rt,
-            told(alloc, desk, request.as_bytes())?.as_str(),
+            told(rt, alloc, desk, request.as_bytes()).as_str(),
             *answer,
             request,
         );
     }
-    Ok(())
 }
 
 #[test]
-fn refusals(rt: HostRuntime) -> Result<(), Fail> {
+fn refusals(rt: HostRuntime) {
     let mut desk = PlainDesk::new(rt.alloc());
-    send(&rt, rt.alloc(), &mut desk, &REFUSED)
+    send(&rt, rt.alloc(), &mut desk, &REFUSED);
 }
 
 #[test]
-fn commands(rt: HostRuntime) -> Result<(), Fail> {
+fn commands(rt: HostRuntime) {
     let mut desk = PlainDesk::new(rt.alloc());
-    send(&rt, rt.alloc(), &mut desk, &DONE)
+    send(&rt, rt.alloc(), &mut desk, &DONE);
 }
 
 #[test]
-fn needs(rt: HostRuntime) -> Result<(), Fail> {
+fn needs(rt: HostRuntime) {
     same(
         &rt,
         &need(b"GET /databases HTTP/1.1\r\n\r\n"),
@@ -188,27 +181,26 @@ fn needs(rt: HostRuntime) -> Result<(), Fail> {
         &need(b"GET /databases HTTP/9\r\n\r\n"),
         &Need::Refused(Status::BadRequest),
     );
-    Ok(())
 }
 
 // What comes of two answers and more in a sink with room for five octets.
-fn told_put(alloc: Global) -> Result<String, Fail> {
-    let made = Answer::Made(String::from_str(alloc, "def")?.into_bytes());
-    let mut sink = LimitedSink::new(alloc, 5)?;
+fn told_put(rt: &impl Abort, alloc: Global) -> String {
+    let text = String::from_str(alloc, "def").expect(rt, "memory");
+    let made = Answer::Made(text.into_bytes());
+    let mut sink = LimitedSink::new(alloc, 5).expect(rt, "a sink");
     let first = Answer::Fixed("abc").put(&mut sink).is_ok();
     let second = made.put(&mut sink).is_ok();
     let third = sink.put(b"g").is_ok();
     let taken = str::from_utf8(sink.taken()).unwrap_or("not UTF-8");
-    Ok(format!(in alloc; "{first} {second} {third} {taken}")?)
+    format!(in alloc; "{first} {second} {third} {taken}").expect(rt, "memory")
 }
 
 #[test]
-fn an_answer_is_put(rt: HostRuntime) -> Result<(), Fail> {
+fn an_answer_is_put(rt: HostRuntime) {
     same_text(
         &rt,
-        told_put(rt.alloc())?.as_str(),
+        told_put(&rt, rt.alloc()).as_str(),
         "true false false abcde",
     );
     same(&rt, &Answer::Fixed("a").octets(), &b"a".as_slice());
-    Ok(())
 }

@@ -7,19 +7,17 @@ use http_service::{
     list_json, put_kept, read_json, read_place, read_virtual, refused_command_json,
     refused_edition_json,
 };
-use std::alloc::{AllocError, Global};
+use std::alloc::Global;
 use std::process::Abort;
-use std::test::Fail;
 
 // The place that a body says.
-fn told_place(alloc: Global, body: &[u8]) -> Result<String, Fail> {
-    let place = read_place(alloc, body)?;
-    Ok(format!(in alloc; "{place:?}")?)
+fn told_place(rt: &impl Abort, alloc: Global, body: &[u8]) -> String {
+    let place = read_place(alloc, body).expect(rt, "memory");
+    format!(in alloc; "{place:?}").expect(rt, "memory")
 }
 
-fn say_place(rt: &impl Abort, alloc: Global, body: &[u8], place: &str) -> Result<(), Fail> {
-    same_text(rt, told_place(alloc, body)?.as_str(), place);
-    Ok(())
+fn say_place(rt: &impl Abort, alloc: Global, body: &[u8], place: &str) {
+    same_text(rt, told_place(rt, alloc, body).as_str(), place);
 }
 
 static PLACES: [(&str, &str); 5] = [
@@ -58,42 +56,36 @@ static NO_PLACES: [&[u8]; 24] = [
 ];
 
 #[test]
-fn places(rt: HostRuntime) -> Result<(), Fail> {
+fn places(rt: HostRuntime) {
     for (body, place) in &PLACES {
-        say_place(&rt, rt.alloc(), body.as_bytes(), place)?;
+        say_place(&rt, rt.alloc(), body.as_bytes(), place);
     }
     for body in &NO_PLACES {
-        say_place(&rt, rt.alloc(), body, "None")?;
+        say_place(&rt, rt.alloc(), body, "None");
     }
-    Ok(())
 }
 
 // The title and the members that a body says, a comma behind each.
-fn told_virtual(alloc: Global, body: &[u8]) -> Result<String, Fail> {
+fn told_virtual(rt: &impl Abort, alloc: Global, body: &[u8]) -> String {
     let mut told = String::new(alloc);
-    let Some(value) = read_json(alloc, body)? else {
-        return Ok(told);
+    let Some(value) = read_json(alloc, body).expect(rt, "memory") else {
+        return told;
     };
-    let Some(form) = read_virtual(alloc, &value)? else {
-        return Ok(told);
+    let Some(form) = read_virtual(alloc, &value).expect(rt, "memory") else {
+        return told;
     };
-    told.push_str(form.title)?;
-    told.push(':')?;
+    told.push_str(form.title).expect(rt, "memory");
+    told.push(':').expect(rt, "memory");
     for member in form.members.iter() {
-        told.push_str(member)?;
-        told.push(',')?;
+        told.push_str(member).expect(rt, "memory");
+        told.push(',').expect(rt, "memory");
     }
-    Ok(told)
+    told
 }
 
-fn say_virtual(rt: &impl Abort, alloc: Global, body: &str, wanted: &str) -> Result<(), Fail> {
-    same_text_of(
-        rt,
-        told_virtual(alloc, body.as_bytes())?.as_str(),
-        wanted,
-        body,
-    );
-    Ok(())
+fn say_virtual(rt: &impl Abort, alloc: Global, body: &str, wanted: &str) {
+    let told = told_virtual(rt, alloc, body.as_bytes());
+    same_text_of(rt, told.as_str(), wanted, body);
 }
 
 static VIRTUAL: [(&str, &str); 5] = [
@@ -123,14 +115,13 @@ static NO_VIRTUAL: [&str; 12] = [
 ];
 
 #[test]
-fn virtual_bodies(rt: HostRuntime) -> Result<(), Fail> {
+fn virtual_bodies(rt: HostRuntime) {
     for (body, told) in &VIRTUAL {
-        say_virtual(&rt, rt.alloc(), body, told)?;
+        say_virtual(&rt, rt.alloc(), body, told);
     }
     for body in &NO_VIRTUAL {
-        say_virtual(&rt, rt.alloc(), body, "")?;
+        say_virtual(&rt, rt.alloc(), body, "");
     }
-    Ok(())
 }
 
 static KEPT: [(u64, Verb, Option<u64>, &str); 5] = [
@@ -166,8 +157,19 @@ static KEPT: [(u64, Verb, Option<u64>, &str); 5] = [
     ),
 ];
 
-fn told_kept(alloc: Global, number: u64, verb: Verb, edition: Option<u64>) -> Result<String, Fail> {
-    let name = String::from_str(alloc, "gem")?;
+// A `String` of this text.
+fn owned(rt: &impl Abort, alloc: Global, text: &str) -> String {
+    String::from_str(alloc, text).expect(rt, "memory")
+}
+
+fn told_kept(
+    rt: &impl Abort,
+    alloc: Global,
+    number: u64,
+    verb: Verb,
+    edition: Option<u64>,
+) -> String {
+    let name = owned(rt, alloc, "gem");
     let kept = Kept {
         number,
         verb,
@@ -175,117 +177,122 @@ fn told_kept(alloc: Global, number: u64, verb: Verb, edition: Option<u64>) -> Re
         edition,
     };
     let mut sink = OverWrite::new(Vec::new(alloc));
-    put_kept(&mut sink, &kept)?;
-    Ok(String::from_utf8(sink.into_inner())?)
+    put_kept(&mut sink, &kept).expect(rt, "a reply");
+    String::from_utf8(sink.into_inner()).expect(rt, "UTF-8")
 }
 
 #[test]
-fn replies(rt: HostRuntime) -> Result<(), Fail> {
+fn replies(rt: HostRuntime) {
     for (number, verb, edition, json) in &KEPT {
         same_text(
             &rt,
-            told_kept(rt.alloc(), *number, *verb, *edition)?.as_str(),
+            told_kept(&rt, rt.alloc(), *number, *verb, *edition).as_str(),
             *json,
         );
     }
-    Ok(())
 }
+
+// A refusal of an edition, its line, if it has one, and what is written.
+static EDITIONS: [(EditionRefusal, Option<usize>, &str); 3] = [
+    (
+        EditionRefusal::Interval,
+        Some(4),
+        "{\"fault\":4,\"line\":4,\"reason\":\"Interval\"}",
+    ),
+    (
+        EditionRefusal::LastLine,
+        None,
+        "{\"fault\":14,\"line\":null,\"reason\":\"LastLine\"}",
+    ),
+    (
+        EditionRefusal::Shown,
+        Some(2),
+        "{\"fault\":15,\"line\":2,\"reason\":\"Shown\"}",
+    ),
+];
 
 #[test]
-fn refusals(rt: HostRuntime) -> Result<(), Fail> {
-    let alloc = rt.alloc();
+fn refusals(rt: HostRuntime) {
+    let json = refused_command_json(rt.alloc(), CommandRefusal::NoFormer).expect(&rt, "memory");
     same_text(
         &rt,
-        refused_command_json(alloc, CommandRefusal::NoFormer)?.as_str(),
+        json.as_str(),
         "{\"reason\":\"NoFormer\",\"refusal\":23}",
     );
-    same_text(
-        &rt,
-        refused_edition_json(alloc, EditionRefusal::Interval, Some(4))?.as_str(),
-        "{\"fault\":4,\"line\":4,\"reason\":\"Interval\"}",
-    );
-    same_text(
-        &rt,
-        refused_edition_json(alloc, EditionRefusal::LastLine, None)?.as_str(),
-        "{\"fault\":14,\"line\":null,\"reason\":\"LastLine\"}",
-    );
-    same_text(
-        &rt,
-        refused_edition_json(alloc, EditionRefusal::Shown, Some(2))?.as_str(),
-        "{\"fault\":15,\"line\":2,\"reason\":\"Shown\"}",
-    );
-    Ok(())
+    for (refusal, line, wanted) in &EDITIONS {
+        let json = refused_edition_json(rt.alloc(), *refusal, *line).expect(&rt, "memory");
+        same_text(&rt, json.as_str(), *wanted);
+    }
 }
 
-fn stored(alloc: Global, number: u64, title: &str) -> Result<StoredTitle, AllocError> {
-    Ok(StoredTitle {
+fn stored(rt: &impl Abort, alloc: Global, number: u64, title: &str) -> StoredTitle {
+    StoredTitle {
         number,
-        title: String::from_str(alloc, title)?,
-    })
+        title: owned(rt, alloc, title),
+    }
 }
 
 // A database with a former edition, if it has one.
 fn regular(
+    rt: &impl Abort,
     alloc: Global,
     name: &str,
     current: StoredTitle,
     former: Option<StoredTitle>,
-) -> Result<Item, AllocError> {
-    Ok(Item::Regular {
-        name: String::from_str(alloc, name)?,
+) -> Item {
+    Item::Regular {
+        name: owned(rt, alloc, name),
         current,
         former,
-    })
+    }
 }
 
 // A database that lists `ore` and `gem`.
-fn group(alloc: Global) -> Result<Item, AllocError> {
+fn group(rt: &impl Abort, alloc: Global) -> Item {
     let mut members = Vec::new(alloc);
-    members.push(String::from_str(alloc, "ore")?)?;
-    members.push(String::from_str(alloc, "gem")?)?;
-    Ok(Item::Virtual {
-        name: String::from_str(alloc, "all")?,
-        title: String::from_str(alloc, "All")?,
+    members.push(owned(rt, alloc, "ore")).expect(rt, "memory");
+    members.push(owned(rt, alloc, "gem")).expect(rt, "memory");
+    Item::Virtual {
+        name: owned(rt, alloc, "all"),
+        title: owned(rt, alloc, "All"),
         members,
-    })
+    }
 }
 
 // A database that has no former edition.
-fn gems(alloc: Global) -> Result<Item, AllocError> {
-    let current = stored(alloc, 1, "Gems")?;
-    regular(alloc, "gem", current, None)
+fn gems(rt: &impl Abort, alloc: Global) -> Item {
+    let current = stored(rt, alloc, 1, "Gems");
+    regular(rt, alloc, "gem", current, None)
 }
 
 // One that has.
-fn ores(alloc: Global) -> Result<Item, AllocError> {
-    let current = stored(alloc, 3, "A \"\\\u{7f}é")?;
-    let former = stored(alloc, 2, "Ores")?;
-    regular(alloc, "ore", current, Some(former))
+fn ores(rt: &impl Abort, alloc: Global) -> Item {
+    let current = stored(rt, alloc, 3, "A \"\\\u{7f}é");
+    let former = stored(rt, alloc, 2, "Ores");
+    regular(rt, alloc, "ore", current, Some(former))
 }
 
-fn push_all(alloc: Global, summary: &mut Summary) -> Result<(), AllocError> {
-    summary.items.push(gems(alloc)?)?;
-    summary.items.push(ores(alloc)?)?;
-    summary.items.push(group(alloc)?)?;
-    Ok(())
+fn push_all(rt: &impl Abort, alloc: Global, summary: &mut Summary) {
+    summary.items.push(gems(rt, alloc)).expect(rt, "memory");
+    summary.items.push(ores(rt, alloc)).expect(rt, "memory");
+    summary.items.push(group(rt, alloc)).expect(rt, "memory");
 }
 
 // The list of the three, or of none.
-fn told_list(alloc: Global, is_filled: bool) -> Result<String, AllocError> {
+fn told_list(rt: &impl Abort, alloc: Global, is_filled: bool) -> String {
     let mut summary = Summary::new(alloc);
     if is_filled {
-        push_all(alloc, &mut summary)?;
+        push_all(rt, alloc, &mut summary);
     }
-    list_json(alloc, &summary)
+    list_json(alloc, &summary).expect(rt, "memory")
 }
 
 #[test]
-fn lists(rt: HostRuntime) -> Result<(), Fail> {
-    same_text(&rt, told_list(rt.alloc(), false)?.as_str(), "[]");
+fn lists(rt: HostRuntime) {
+    same_text(&rt, told_list(&rt, rt.alloc(), false).as_str(), "[]");
     let wanted =
         "[{\"current\":1,\"former\":null,\"kind\":\"regular\",\"name\":\"gem\",\"title\":\"Gems\"},\
         {\"current\":3,\"former\":2,\"kind\":\"regular\",\"name\":\"ore\",\"title\":\"A \\\"\\\\\u{7f}é\"},\
         {\"kind\":\"virtual\",\"members\":[\"ore\",\"gem\"],\"name\":\"all\",\"title\":\"All\"}]";
-    same_text(&rt, told_list(rt.alloc(), true)?.as_str(), wanted);
-    Ok(())
+    same_text(&rt, told_list(&rt, rt.alloc(), true).as_str(), wanted);
 }

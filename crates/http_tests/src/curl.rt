@@ -3,7 +3,6 @@ use crate::table::ask;
 use dict_desk::PlainDesk;
 use std::alloc::Global;
 use std::process::Abort;
-use std::test::Fail;
 
 /// The octets of a request, and the status and the body of its answer.
 #[derive(Clone, Copy)]
@@ -48,15 +47,14 @@ static SENT: [Sent; 7] = [
 ];
 
 // Sends them one after the other.
-fn send(rt: &impl Abort, alloc: Global, desk: &mut PlainDesk) -> Result<(), Fail> {
-    for Sent(request, status, body) in SENT {
-        ask(rt, alloc, desk, request, (status, body))?;
+fn send(rt: &impl Abort, alloc: Global, desk: &mut PlainDesk) {
+    for Sent(request, status, body) in &SENT {
+        ask(rt, alloc, desk, request, (*status, *body));
     }
-    Ok(())
 }
 
 #[test]
-fn requests_of_curl(rt: HostRuntime) -> Result<(), Fail> {
+fn requests_of_curl(rt: HostRuntime) {
     let mut desk = PlainDesk::new(rt.alloc());
-    send(&rt, rt.alloc(), &mut desk)
+    send(&rt, rt.alloc(), &mut desk);
 }

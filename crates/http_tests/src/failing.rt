@@ -7,7 +7,6 @@ use dict_desk::{PlainDesk, Preparer};
 use dict_fixtures::FailingDesk;
 use std::alloc::Global;
 use std::process::Abort;
-use std::test::Fail;
 
 const UNAVAILABLE: &str =
     "HTTP/1.1 503 Service Unavailable\r\nContent-Type: application/json\r\nContent-Length: 23\r\nConnection: close\r\n\r\n{\"error\":\"unavailable\"}";
@@ -45,29 +44,17 @@ static ROWS: [Row; 5] = [
 ];
 
 // This request is answered 503.
-fn is_unavailable<K: Preparer>(
-    rt: &impl Abort,
-    alloc: Global,
-    desk: &mut K,
-    request: &str,
-) -> Result<(), Fail> {
-    let answer = told(alloc, desk, request.as_bytes())?;
+fn is_unavailable<K: Preparer>(rt: &impl Abort, alloc: Global, desk: &mut K, request: &str) {
+    let answer = told(rt, alloc, desk, request.as_bytes());
     same_text_of(rt, answer.as_str(), UNAVAILABLE, request);
-    Ok(())
 }
 
 // The requests of these rows are answered 503.
-fn are_unavailable<K: Preparer>(
-    rt: &impl Abort,
-    alloc: Global,
-    desk: &mut K,
-    rows: &[Row],
-) -> Result<(), Fail> {
+fn are_unavailable<K: Preparer>(rt: &impl Abort, alloc: Global, desk: &mut K, rows: &[Row]) {
     for row in rows {
-        let request = request_of(alloc, *row)?;
-        is_unavailable(rt, alloc, desk, &request)?;
+        let request = request_of(rt, alloc, *row);
+        is_unavailable(rt, alloc, desk, &request);
     }
-    Ok(())
 }
 
 // Which row's request meets a failure behind so many calls: each makes two, and the install, which comes first, three.
@@ -76,45 +63,33 @@ fn which(calls: u64) -> usize {
 }
 
 // The request that finds no memory is answered 503, and sent again it is answered as ever.
-fn meet_no_memory(
-    rt: &impl Abort,
-    alloc: Global,
-    desk: &mut FailingDesk,
-    which: usize,
-) -> Result<(), Fail> {
+fn meet_no_memory(rt: &impl Abort, alloc: Global, desk: &mut FailingDesk, which: usize) {
     let (before, after) = ROWS.split_at(which.min(ROWS.len()));
-    run(rt, alloc, desk, before)?;
-    are_unavailable(rt, alloc, desk, after.get(..1).unwrap_or(&[]))?;
-    run(rt, alloc, desk, after)
+    run(rt, alloc, desk, before);
+    are_unavailable(rt, alloc, desk, after.get(..1).unwrap_or(&[]));
+    run(rt, alloc, desk, after);
 }
 
 #[test]
-fn a_call_finds_no_memory(rt: HostRuntime) -> Result<(), Fail> {
+fn a_call_finds_no_memory(rt: HostRuntime) {
     for calls in 0..11u64 {
         let mut desk = FailingDesk::new(PlainDesk::new(rt.alloc()), calls, false);
-        meet_no_memory(&rt, rt.alloc(), &mut desk, which(calls))?;
+        meet_no_memory(&rt, rt.alloc(), &mut desk, which(calls));
     }
-    Ok(())
 }
 
 // As a store fails: the request and all after it are answered 503, the list too.
-fn meet_no_store(
-    rt: &impl Abort,
-    alloc: Global,
-    desk: &mut FailingDesk,
-    which: usize,
-) -> Result<(), Fail> {
+fn meet_no_store(rt: &impl Abort, alloc: Global, desk: &mut FailingDesk, which: usize) {
     let (before, after) = ROWS.split_at(which.min(ROWS.len()));
-    run(rt, alloc, desk, before)?;
-    are_unavailable(rt, alloc, desk, after)?;
-    is_unavailable(rt, alloc, desk, "GET /databases HTTP/1.1\r\n\r\n")
+    run(rt, alloc, desk, before);
+    are_unavailable(rt, alloc, desk, after);
+    is_unavailable(rt, alloc, desk, "GET /databases HTTP/1.1\r\n\r\n");
 }
 
 #[test]
-fn a_call_finds_no_store(rt: HostRuntime) -> Result<(), Fail> {
+fn a_call_finds_no_store(rt: HostRuntime) {
     for calls in 0..11u64 {
         let mut desk = FailingDesk::new(PlainDesk::new(rt.alloc()), calls, true);
-        meet_no_store(&rt, rt.alloc(), &mut desk, which(calls))?;
+        meet_no_store(&rt, rt.alloc(), &mut desk, which(calls));
     }
-    Ok(())
 }

@@ -2,7 +2,7 @@
 use crate::checks::{same, same_text};
 use http_request::{Need, RequestReading, Status, Values, need, read_request};
 use std::alloc::Global;
-use std::test::Fail;
+use std::process::Abort;
 
 const BAD: Need = Need::Refused(Status::BadRequest);
 
@@ -92,37 +92,44 @@ fn fronts(rt: HostRuntime) {
 }
 
 #[test]
-fn whatever_follows(rt: HostRuntime) -> Result<(), Fail> {
+fn whatever_follows(rt: HostRuntime) {
     let put = b"POST /databases/gem/rollback HTTP/1.1\r\nRequest-Id: r2\r\n\r\n";
     for octet in 0..=255 {
-        let mut longer = put.to_vec(rt.alloc())?;
-        longer.push(octet)?;
+        let mut longer = put.to_vec(rt.alloc()).expect(&rt, "memory");
+        longer.push(octet).expect(&rt, "memory");
         same(&rt, &need(&longer), &Need::Whole(put.len()));
     }
-    Ok(())
 }
 
 // A front, so many of a text, and an end.
-fn filled(alloc: Global, front: &str, text: &str, count: usize, end: &str) -> Result<String, Fail> {
-    let mut head = String::from_str(alloc, front)?;
-    for _ in 0..count {
-        head.push_str(text)?;
-    }
-    head.push_str(end)?;
-    Ok(head)
-}
-
-// How many octets that is, and what it needs.
-fn told_filled(
+fn filled(
+    rt: &impl Abort,
     alloc: Global,
     front: &str,
     text: &str,
     count: usize,
     end: &str,
-) -> Result<String, Fail> {
-    let head = filled(alloc, front, text, count, end)?;
+) -> String {
+    let mut head = String::from_str(alloc, front).expect(rt, "memory");
+    for _ in 0..count {
+        head.push_str(text).expect(rt, "memory");
+    }
+    head.push_str(end).expect(rt, "memory");
+    head
+}
+
+// How many octets that is, and what it needs.
+fn told_filled(
+    rt: &impl Abort,
+    alloc: Global,
+    front: &str,
+    text: &str,
+    count: usize,
+    end: &str,
+) -> String {
+    let head = filled(rt, alloc, front, text, count, end);
     let (len, needed) = (head.len(), need(head.as_bytes()));
-    Ok(format!(in alloc; "{len} {needed:?}")?)
+    format!(in alloc; "{len} {needed:?}").expect(rt, "memory")
 }
 
 // A head has at most 8,192 octets and 32 headers.
@@ -176,21 +183,20 @@ static LIMITS: [(&str, &str, usize, &str, &str); 10] = [
 ];
 
 #[test]
-fn lengths_and_counts(rt: HostRuntime) -> Result<(), Fail> {
+fn lengths_and_counts(rt: HostRuntime) {
     for (front, text, count, end, wanted) in &LIMITS {
         same_text(
             &rt,
-            told_filled(rt.alloc(), front, text, *count, end)?.as_str(),
+            told_filled(&rt, rt.alloc(), front, text, *count, end).as_str(),
             *wanted,
         );
     }
-    Ok(())
 }
 
 // A request's method, target, ids and body.
-fn told(alloc: Global, octets: &[u8]) -> Result<String, Fail> {
+fn told(rt: &impl Abort, alloc: Global, octets: &[u8]) -> String {
     let RequestReading::Whole(request) = read_request(octets) else {
-        return Ok(String::from_str(alloc, "not whole")?);
+        return String::from_str(alloc, "not whole").expect(rt, "memory");
     };
     let ids = match request.ids {
         Values::Absent => "none",
@@ -200,7 +206,7 @@ fn told(alloc: Global, octets: &[u8]) -> Result<String, Fail> {
     let method = str::from_utf8(request.method).unwrap_or("not UTF-8");
     let body = str::from_utf8(request.body).unwrap_or("not UTF-8");
     let target = request.target;
-    Ok(format!(in alloc; "{method},{target},{ids},{body}")?)
+    format!(in alloc; "{method},{target},{ids},{body}").expect(rt, "memory")
 }
 
 static REQUESTS: [(&[u8], &str); 3] = [
@@ -219,9 +225,8 @@ static REQUESTS: [(&[u8], &str); 3] = [
 ];
 
 #[test]
-fn requests(rt: HostRuntime) -> Result<(), Fail> {
+fn requests(rt: HostRuntime) {
     for (octets, wanted) in &REQUESTS {
-        same_text(&rt, told(rt.alloc(), octets)?.as_str(), *wanted);
+        same_text(&rt, told(&rt, rt.alloc(), octets).as_str(), *wanted);
     }
-    Ok(())
 }

@@ -3,7 +3,6 @@ use crate::checks::same_text_of;
 use http_request::Routes;
 use std::alloc::Global;
 use std::process::Abort;
-use std::test::Fail;
 
 // A path, and its form and its name, if it has a form.
 static PATHS: [(&str, &str); 42] = [
@@ -51,25 +50,24 @@ static PATHS: [(&str, &str); 42] = [
     ("http://localhost/databases", "none"),
 ];
 
-fn told(alloc: Global, routes: &Routes, path: &str) -> Result<String, Fail> {
-    Ok(match routes.find(path) {
+fn told(rt: &impl Abort, alloc: Global, routes: &Routes, path: &str) -> String {
+    match routes.find(path) {
         Some(found) => {
             let (route, name) = (found.route, found.name);
-            format!(in alloc; "{route:?} {name}")?
+            format!(in alloc; "{route:?} {name}").expect(rt, "memory")
         }
-        None => String::from_str(alloc, "none")?,
-    })
+        None => String::from_str(alloc, "none").expect(rt, "memory"),
+    }
 }
 
-fn find_all(rt: &impl Abort, alloc: Global, routes: &Routes) -> Result<(), Fail> {
+fn find_all(rt: &impl Abort, alloc: Global, routes: &Routes) {
     for (path, form) in &PATHS {
-        same_text_of(rt, told(alloc, routes, path)?.as_str(), *form, path);
+        same_text_of(rt, told(rt, alloc, routes, path).as_str(), *form, path);
     }
-    Ok(())
 }
 
 #[test]
-fn paths(rt: HostRuntime) -> Result<(), Fail> {
-    let routes = Routes::new(rt.alloc())?;
-    find_all(&rt, rt.alloc(), &routes)
+fn paths(rt: HostRuntime) {
+    let routes = Routes::new(rt.alloc()).expect(&rt, "routes");
+    find_all(&rt, rt.alloc(), &routes);
 }

@@ -4,7 +4,6 @@ use crate::checks::same_text_of;
 use dict_desk::PlainDesk;
 use std::alloc::Global;
 use std::process::Abort;
-use std::test::Fail;
 
 /// A path, its methods as `Allow` tells them, and whether it has GET, PUT, POST and DELETE.
 #[derive(Clone, Copy)]
@@ -25,43 +24,35 @@ static SERVED: [Served; 5] = [
 static METHODS: [&str; 4] = ["GET", "PUT", "POST", "DELETE"];
 
 /// What a request without an id is answered, where its path has its method and where it hasn't.
-fn wanted(alloc: Global, path: &str, allow: &str, is_served: bool) -> Result<String, Fail> {
+fn wanted(rt: &impl Abort, alloc: Global, path: &str, allow: &str, is_served: bool) -> String {
     if !is_served {
-        return Ok(format!(in alloc;
+        return format!(in alloc;
             "HTTP/1.1 405 Method Not Allowed\r\nContent-Type: application/json\r\nContent-Length: 30\r\nAllow: {allow}\r\nConnection: close\r\n\r\n{{\"error\":\"method not allowed\"}}"
-        )?);
+        ).expect(rt, "memory");
     }
     if path == "/databases" {
-        response(alloc, "200 OK", "[]")
+        response(rt, alloc, "200 OK", "[]")
     } else {
-        response(alloc, "400 Bad Request", "{\"error\":\"bad request\"}")
+        response(rt, alloc, "400 Bad Request", "{\"error\":\"bad request\"}")
     }
 }
 
 /// What a request is answered over an empty catalogue.
-fn told_anew(alloc: Global, request: &str) -> Result<String, Fail> {
+fn told_anew(rt: &impl Abort, alloc: Global, request: &str) -> String {
     let mut desk = PlainDesk::new(alloc);
-    told(alloc, &mut desk, request.as_bytes())
+    told(rt, alloc, &mut desk, request.as_bytes())
 }
 
-fn look(rt: &impl Abort, alloc: Global, request: &str, wanted: &str) -> Result<(), Fail> {
-    same_text_of(rt, told_anew(alloc, request)?.as_str(), wanted, request);
-    Ok(())
+fn look(rt: &impl Abort, alloc: Global, request: &str, wanted: &str) {
+    same_text_of(rt, told_anew(rt, alloc, request).as_str(), wanted, request);
 }
 
 // Asks for a path by these methods, which it has or hasn't.
-fn ask(
-    rt: &impl Abort,
-    alloc: Global,
-    path: &str,
-    methods: &[&str],
-    wanted: &str,
-) -> Result<(), Fail> {
+fn ask(rt: &impl Abort, alloc: Global, path: &str, methods: &[&str], wanted: &str) {
     for method in methods {
-        let request = format!(in alloc; "{method} {path} HTTP/1.1\r\n\r\n")?;
-        look(rt, alloc, &request, wanted)?;
+        let request = format!(in alloc; "{method} {path} HTTP/1.1\r\n\r\n").expect(rt, "memory");
+        look(rt, alloc, &request, wanted);
     }
-    Ok(())
 }
 
 // The same, by what is wanted of methods that the path has or hasn't.
@@ -71,23 +62,23 @@ fn ask_as(
     (path, allow): (&str, &str),
     methods: &[&str],
     is_served: bool,
-) -> Result<(), Fail> {
-    let text = wanted(alloc, path, allow, is_served)?;
-    ask(rt, alloc, path, methods, &text)
+) {
+    let text = wanted(rt, alloc, path, allow, is_served);
+    ask(rt, alloc, path, methods, &text);
 }
 
 static UNKNOWN_METHODS: [&str; 4] = ["PATCH", "HEAD", "get", "put"];
 
 #[test]
-fn methods(rt: HostRuntime) -> Result<(), Fail> {
+fn methods(rt: HostRuntime) {
     let alloc = rt.alloc();
-    for Served(path, allow, serves) in SERVED {
+    for Served(path, allow, serves) in &SERVED {
+        let at = (*path, *allow);
         for (method, is_served) in METHODS.iter().zip(serves.iter()) {
-            ask_as(&rt, alloc, (path, allow), &[*method], *is_served)?;
+            ask_as(&rt, alloc, at, &[*method], *is_served);
         }
-        ask_as(&rt, alloc, (path, allow), &UNKNOWN_METHODS, false)?;
+        ask_as(&rt, alloc, at, &UNKNOWN_METHODS, false);
     }
-    Ok(())
 }
 
 static NO_PATHS: [&str; 14] = [
@@ -108,29 +99,33 @@ static NO_PATHS: [&str; 14] = [
 ];
 
 #[test]
-fn no_paths(rt: HostRuntime) -> Result<(), Fail> {
-    let text = response(rt.alloc(), "404 Not Found", "{\"error\":\"not found\"}")?;
-    for path in NO_PATHS {
-        ask(&rt, rt.alloc(), path, &METHODS, &text)?;
+fn no_paths(rt: HostRuntime) {
+    let text = response(
+        &rt,
+        rt.alloc(),
+        "404 Not Found",
+        "{\"error\":\"not found\"}",
+    );
+    for path in &NO_PATHS {
+        ask(&rt, rt.alloc(), path, &METHODS, &text);
     }
-    Ok(())
 }
 
 static NO_NAMES: [&str; 6] = ["%67em", "gem?", "gem#a", "été", "Gem", "{name}"];
 
 #[test]
-fn names_are_not_decoded(rt: HostRuntime) -> Result<(), Fail> {
+fn names_are_not_decoded(rt: HostRuntime) {
     let alloc = rt.alloc();
     let text = response(
+        &rt,
         alloc,
         "409 Conflict",
         "{\"reason\":\"BadName\",\"refusal\":20}",
-    )?;
-    for name in NO_NAMES {
+    );
+    for name in &NO_NAMES {
         let request = format!(in alloc;
             "DELETE /databases/{name} HTTP/1.1\r\nREQUEST-id: \t r1 \r\n\r\n"
-        )?;
-        look(&rt, alloc, &request, &text)?;
+        ).expect(&rt, "memory");
+        look(&rt, alloc, &request, &text);
     }
-    Ok(())
 }

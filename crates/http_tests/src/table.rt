@@ -4,7 +4,6 @@ use crate::checks::same_text_of;
 use dict_desk::{PlainDesk, Preparer};
 use std::alloc::Global;
 use std::process::Abort;
-use std::test::Fail;
 
 /// A method and a path; the header lines that say the id; a body; and the status and the body of the answer.
 #[derive(Clone, Copy)]
@@ -229,10 +228,11 @@ static RETIRED: [Row; 5] = [
 ];
 
 /// The octets of a row's request.
-pub(crate) fn request_of(alloc: Global, row: Row) -> Result<String, Fail> {
+pub(crate) fn request_of(rt: &impl Abort, alloc: Global, row: Row) -> String {
     let Row(asked, ids, body, _, _) = row;
     let len = body.len();
-    Ok(format!(in alloc; "{asked} HTTP/1.1\r\n{ids}Content-Length: {len}\r\n\r\n{body}")?)
+    let text = format!(in alloc; "{asked} HTTP/1.1\r\n{ids}Content-Length: {len}\r\n\r\n{body}");
+    text.expect(rt, "memory")
 }
 
 /// A request is answered by this status and this body.
@@ -242,36 +242,29 @@ pub(crate) fn ask<K: Preparer>(
     desk: &mut K,
     request: &str,
     (status, body): (&str, &str),
-) -> Result<(), Fail> {
-    let wanted = response(alloc, status, body)?;
-    let answer = told(alloc, desk, request.as_bytes())?;
+) {
+    let wanted = response(rt, alloc, status, body);
+    let answer = told(rt, alloc, desk, request.as_bytes());
     same_text_of(rt, answer.as_str(), wanted.as_str(), request);
-    Ok(())
 }
 
 /// The requests of a table one after another, each answered as its row says.
-pub(crate) fn run<K: Preparer>(
-    rt: &impl Abort,
-    alloc: Global,
-    desk: &mut K,
-    rows: &[Row],
-) -> Result<(), Fail> {
+pub(crate) fn run<K: Preparer>(rt: &impl Abort, alloc: Global, desk: &mut K, rows: &[Row]) {
     for row in rows {
-        let request = request_of(alloc, *row)?;
-        ask(rt, alloc, desk, &request, (row.3, row.4))?;
+        let request = request_of(rt, alloc, *row);
+        ask(rt, alloc, desk, &request, (row.3, row.4));
     }
-    Ok(())
 }
 
 // The same over an empty catalogue.
-fn run_anew(rt: &impl Abort, alloc: Global, rows: &[Row]) -> Result<(), Fail> {
+fn run_anew(rt: &impl Abort, alloc: Global, rows: &[Row]) {
     let mut desk = PlainDesk::new(alloc);
-    run(rt, alloc, &mut desk, rows)
+    run(rt, alloc, &mut desk, rows);
 }
 
 #[test]
-fn requests_in_turn(rt: HostRuntime) -> Result<(), Fail> {
-    run_anew(&rt, rt.alloc(), &TABLE)?;
-    run_anew(&rt, rt.alloc(), &VIRTUAL)?;
-    run_anew(&rt, rt.alloc(), &RETIRED)
+fn requests_in_turn(rt: HostRuntime) {
+    run_anew(&rt, rt.alloc(), &TABLE);
+    run_anew(&rt, rt.alloc(), &VIRTUAL);
+    run_anew(&rt, rt.alloc(), &RETIRED);
 }

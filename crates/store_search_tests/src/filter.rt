@@ -2,9 +2,8 @@
 use crate::checks::holds;
 use crate::made::{made_headwords, repeated};
 use dict_match::{Key, Strategy, key_of, matches};
-use std::alloc::{AllocError, Global};
+use std::alloc::Global;
 use std::process::Abort;
-use std::test::Fail;
 use store_derived::select;
 use store_search::{Index, IndexBuilder, edition_laws, selection_law};
 
@@ -276,97 +275,102 @@ static FAR: [Line<'static>; 3] = [
     ("c", "c", 4, 5),
 ];
 
-fn lines_of(alloc: Global, text: &str) -> Result<Vec<Line<'_>>, AllocError> {
+fn lines_of<'a>(rt: &impl Abort, alloc: Global, text: &'a str) -> Vec<Line<'a>> {
     let mut lines = Vec::new(alloc);
     for headword in text.lines() {
-        lines.push((headword, headword, 0, headword.len()))?;
+        lines
+            .push((headword, headword, 0, headword.len()))
+            .expect(rt, "memory");
     }
-    Ok(lines)
+    lines
 }
 
-fn push_lines(builder: &mut IndexBuilder, lines: &[Line]) -> Result<(), AllocError> {
+fn push_lines(rt: &impl Abort, builder: &mut IndexBuilder, lines: &[Line]) {
     for line in lines {
-        builder.push(line.0, line.1, line.2, line.3)?;
+        builder
+            .push(line.0, line.1, line.2, line.3)
+            .expect(rt, "memory");
     }
-    Ok(())
 }
 
-fn built(alloc: Global, lines: &[Line]) -> Result<Index, AllocError> {
+fn built(rt: &impl Abort, alloc: Global, lines: &[Line]) -> Index {
     let mut builder = IndexBuilder::new(alloc);
-    if push_lines(&mut builder, lines).is_err() || builder.len() > MOST {
-        drop(builder);
-        return Err(AllocError);
-    }
-    builder.finish()
+    push_lines(rt, &mut builder, lines);
+    assert!(rt; builder.len() <= MOST, "so many lines");
+    builder.finish().expect(rt, "an index")
 }
 
-fn push_key(alloc: Global, keys: &mut Vec<Key>, text: &str) -> Result<(), AllocError> {
-    keys.push(key_of(alloc, text)?)?;
-    Ok(())
+fn push_key(rt: &impl Abort, alloc: Global, keys: &mut Vec<Key>, text: &str) {
+    let key = key_of(alloc, text).expect(rt, "a key");
+    keys.push(key).expect(rt, "memory");
 }
 
-fn keys_of(alloc: Global, lines: &[Line]) -> Result<Vec<Key>, AllocError> {
+fn keys_of(rt: &impl Abort, alloc: Global, lines: &[Line]) -> Vec<Key> {
     let mut keys = Vec::new(alloc);
     for line in lines {
-        push_key(alloc, &mut keys, line.0)?;
+        push_key(rt, alloc, &mut keys, line.0);
     }
-    Ok(keys)
+    keys
 }
 
 // The keys of the queries, a line for each.
-fn keys_asked(alloc: Global, asked: &str) -> Result<Vec<Key>, AllocError> {
+fn keys_asked(rt: &impl Abort, alloc: Global, asked: &str) -> Vec<Key> {
     let mut keys = Vec::new(alloc);
     for query in asked.lines() {
-        push_key(alloc, &mut keys, query)?;
+        push_key(rt, alloc, &mut keys, query);
     }
-    Ok(keys)
+    keys
 }
 
 // The places of the keys that the query finds: the filter of the whole list.
 fn filtered(
+    rt: &impl Abort,
     alloc: Global,
     keys: &[Key],
     strategy: Strategy,
     query: &[u8],
-) -> Result<Vec<u32>, AllocError> {
+) -> Vec<u32> {
     let mut places = Vec::new(alloc);
     let mut place: u32 = 0;
     for key in keys {
         if matches(strategy, query, key.as_bytes()) {
-            places.push(place)?;
+            places.push(place).expect(rt, "memory");
         }
         place = place.wrapping_add(1);
     }
-    Ok(places)
+    places
 }
 
 fn count_candidates(
+    rt: &impl Abort,
     alloc: Global,
     index: &Index,
     strategy: Strategy,
     query: &[u8],
-) -> Result<usize, AllocError> {
-    let selection = select(alloc, strategy, query)?;
+) -> usize {
+    let selection = select(alloc, strategy, query).expect(rt, "a selection");
     let candidates = index.candidates(alloc, &selection);
     drop(selection);
-    Ok(candidates?.len())
+    candidates.expect(rt, "candidates").len()
 }
 
 // Whether a query finds these places, and is counted and looks at entries as many as it is to.
 fn finds(
+    rt: &impl Abort,
     alloc: Global,
     index: &Index,
     strategy: Strategy,
     query: &[u8],
     wanted: &[u32],
-) -> Result<bool, AllocError> {
-    let counted = index.count_entries(alloc, strategy, query)?;
-    let looked_at = count_candidates(alloc, index, strategy, query)?;
-    let found = index.find(alloc, strategy, query)?;
-    let same = found.places.as_slice() == wanted;
-    let seen = found.looked_at;
-    drop(found);
-    Ok(same && counted.count == wanted.len() && looked_at == seen)
+) -> bool {
+    let counted = index
+        .count_entries(alloc, strategy, query)
+        .expect(rt, "a count");
+    let looked_at = count_candidates(rt, alloc, index, strategy, query);
+    let found = index.find(alloc, strategy, query).expect(rt, "places");
+    found.places.as_slice() == wanted
+        && counted.count == wanted.len()
+        && looked_at == found.looked_at
 }
 
 // One query of some lines, beside the filter: how many it finds.
@@ -377,13 +381,11 @@ fn try_one(
     keys: &[Key],
     strategy: Strategy,
     query: &[u8],
-) -> Result<usize, AllocError> {
-    let wanted = filtered(alloc, keys, strategy, query)?;
-    let count = wanted.len();
-    let found = finds(alloc, index, strategy, query, wanted.as_slice());
-    drop(wanted);
-    holds(rt, found?, strategy.name());
-    Ok(count)
+) -> usize {
+    let wanted = filtered(rt, alloc, keys, strategy, query);
+    let is_so = finds(rt, alloc, index, strategy, query, wanted.as_slice());
+    holds(rt, is_so, strategy.name());
+    wanted.len()
 }
 
 // Each query by one strategy: how many they find.
@@ -394,13 +396,13 @@ fn try_queries(
     keys: &[Key],
     strategy: Strategy,
     asked: &[Key],
-) -> Result<usize, AllocError> {
+) -> usize {
     let mut found: usize = 0;
     for query in asked {
-        let some = try_one(rt, alloc, index, keys, strategy, query.as_bytes())?;
+        let some = try_one(rt, alloc, index, keys, strategy, query.as_bytes());
         found = found.wrapping_add(some);
     }
-    Ok(found)
+    found
 }
 
 // Each query by each of the strategies: how many they find.
@@ -411,54 +413,28 @@ fn try_strategies(
     keys: &[Key],
     strategies: &[Strategy],
     asked: &[Key],
-) -> Result<usize, AllocError> {
+) -> usize {
     let mut found: usize = 0;
     for strategy in strategies {
-        let some = try_queries(rt, alloc, index, keys, *strategy, asked)?;
+        let some = try_queries(rt, alloc, index, keys, *strategy, asked);
         found = found.wrapping_add(some);
     }
-    Ok(found)
-}
-
-// The same of one index of the lines, whose keys are these.
-fn try_index(
-    rt: &impl Abort,
-    alloc: Global,
-    lines: &[Line],
-    keys: &[Key],
-    strategies: &[Strategy],
-    asked: &[Key],
-) -> Result<usize, AllocError> {
-    let index = built(alloc, lines)?;
-    let found = try_strategies(rt, alloc, &index, keys, strategies, asked);
-    drop(index);
     found
 }
 
-fn try_keys(
-    rt: &impl Abort,
-    alloc: Global,
-    lines: &[Line],
-    strategies: &[Strategy],
-    asked: &[Key],
-) -> Result<usize, AllocError> {
-    let keys = keys_of(alloc, lines)?;
-    let found = try_index(rt, alloc, lines, keys.as_slice(), strategies, asked);
-    drop(keys);
-    found
-}
-
-// The same of queries, a line for each.
+// The same of an index of the lines, and of queries, a line for each.
 fn try_lines(
     rt: &impl Abort,
     alloc: Global,
     lines: &[Line],
     strategies: &[Strategy],
     asked: &str,
-) -> Result<usize, AllocError> {
-    let asked = keys_asked(alloc, asked)?;
-    let found = try_keys(rt, alloc, lines, strategies, asked.as_slice());
-    drop(asked);
+) -> usize {
+    let asked = keys_asked(rt, alloc, asked);
+    let keys = keys_of(rt, alloc, lines);
+    let index = built(rt, alloc, lines);
+    let found = try_strategies(rt, alloc, &index, &keys, strategies, &asked);
+    drop(index);
     found
 }
 
@@ -469,67 +445,48 @@ fn try_text(
     text: &str,
     strategies: &[Strategy],
     asked: &str,
-) -> Result<usize, AllocError> {
-    let lines = lines_of(alloc, text)?;
-    let found = try_lines(rt, alloc, lines.as_slice(), strategies, asked);
-    drop(lines);
-    found
+) -> usize {
+    let lines = lines_of(rt, alloc, text);
+    try_lines(rt, alloc, lines.as_slice(), strategies, asked)
 }
 
 #[test]
-fn queries_find_what_the_filter_finds(rt: HostRuntime) -> Result<(), Fail> {
+fn queries_find_what_the_filter_finds(rt: HostRuntime) {
     edition_laws();
     selection_law();
-    let found = try_lines(&rt, rt.alloc(), &LINES, &Strategy::ALL, ASKED)?;
+    let found = try_lines(&rt, rt.alloc(), &LINES, &Strategy::ALL, ASKED);
     holds(&rt, found > 0, "found");
-    Ok(())
 }
 
 #[test]
-fn as_many_are_found_as_are_wanted(rt: HostRuntime) -> Result<(), Fail> {
+fn as_many_are_found_as_are_wanted(rt: HostRuntime) {
     for (text, asked, wanted) in &TEXTS {
-        let found = try_text(&rt, rt.alloc(), *text, &Strategy::ALL, *asked)?;
+        let found = try_text(&rt, rt.alloc(), *text, &Strategy::ALL, *asked);
         holds(&rt, found == *wanted, asked);
     }
-    Ok(())
 }
 
 // How many queries find that are made as the headwords are, with others behind them.
-fn try_made(
-    rt: &impl Abort,
-    alloc: Global,
-    text: &str,
-    asked: &mut String,
-) -> Result<usize, AllocError> {
-    asked.push_str(RUNS)?;
+fn try_scripts(rt: &impl Abort, alloc: Global, text: &str) -> usize {
+    let mut asked = made_headwords(rt, alloc, 5);
+    asked.push_str(RUNS).expect(rt, "memory");
     try_text(rt, alloc, text, &Strategy::ALL, asked.as_str())
 }
 
-fn try_scripts(rt: &impl Abort, alloc: Global, text: &str) -> Result<usize, AllocError> {
-    let mut asked = made_headwords(alloc, 5)?;
-    let found = try_made(rt, alloc, text, &mut asked);
-    drop(asked);
-    found
-}
-
 #[test]
-fn headwords_in_six_scripts(rt: HostRuntime) -> Result<(), Fail> {
-    let text = made_headwords(rt.alloc(), 3_400)?;
+fn headwords_in_six_scripts(rt: HostRuntime) {
+    let text = made_headwords(&rt, rt.alloc(), 3_400);
     let found = try_scripts(&rt, rt.alloc(), text.as_str());
-    drop(text);
     // as many as a filter in Python finds
-    holds(&rt, found? == 13_167, "found");
-    Ok(())
+    holds(&rt, found == 13_167, "found");
 }
 
 #[test]
-fn equal_keys(rt: HostRuntime) -> Result<(), Fail> {
-    let text = repeated(rt.alloc(), "opal\n", 262_144)?;
+fn equal_keys(rt: HostRuntime) {
+    let text = repeated(&rt, rt.alloc(), "opal\n", 262_144);
     let strategies = [Strategy::Exact, Strategy::Prefix, Strategy::Substring];
     let found = try_text(&rt, rt.alloc(), text.as_str(), &strategies, "opal");
-    drop(text);
-    holds(&rt, found? == 3 * 262_144, "found");
-    Ok(())
+    holds(&rt, found == 3 * 262_144, "found");
 }
 
 // Whether the entry at a place is of this line.
@@ -549,29 +506,29 @@ fn look_at_entries(rt: &impl Abort, index: &Index, lines: &[Line]) {
     holds(rt, is_last, "the last");
 }
 
-fn look_at_headwords(rt: &impl Abort, alloc: Global, index: &Index) -> Result<(), AllocError> {
-    let counted = index.count_headwords(alloc, Strategy::Suffix, b"opal")?;
+fn look_at_headwords(rt: &impl Abort, alloc: Global, index: &Index) {
+    let counted = index
+        .count_headwords(alloc, Strategy::Suffix, b"opal")
+        .expect(rt, "a count");
     holds(rt, counted.count == 3 && counted.looked_at == 4, "opal");
-    let found = index.find_headwords(alloc, Strategy::Suffix, b"opal")?;
+    let found = index
+        .find_headwords(alloc, Strategy::Suffix, b"opal")
+        .expect(rt, "places");
     let is_so = found.places.as_slice() == [0, 1, 3].as_slice();
-    drop(found);
     holds(rt, is_so, "opal");
-    Ok(())
 }
 
 #[test]
-fn headwords_come_once_and_entries_by_their_places(rt: HostRuntime) -> Result<(), Fail> {
-    let index = built(rt.alloc(), &LINES)?;
+fn headwords_come_once_and_entries_by_their_places(rt: HostRuntime) {
+    let index = built(&rt, rt.alloc(), &LINES);
     look_at_entries(&rt, &index, &LINES);
-    let end = look_at_headwords(&rt, rt.alloc(), &index);
+    look_at_headwords(&rt, rt.alloc(), &index);
     drop(index);
-    Ok(end?)
 }
 
 #[test]
-fn spans_of_any_size_are_kept(rt: HostRuntime) -> Result<(), Fail> {
-    let index = built(rt.alloc(), &FAR)?;
+fn spans_of_any_size_are_kept(rt: HostRuntime) {
+    let index = built(&rt, rt.alloc(), &FAR);
     look_at_entries(&rt, &index, &FAR);
     drop(index);
-    Ok(())
 }

@@ -6,7 +6,7 @@ use dict_desk::{Answered, Fault, Keeper, Lookup, Preparer};
 use sqlite::{Alter, Connection, FileStore, Files};
 use sqlite_disk::{Crash, Disk};
 use std::alloc::Global;
-use std::test::Fail;
+use std::process::Abort;
 use store_desk::{Desk, Unopened};
 use store_fixtures::{Asked, Editions, Source, failing_disk, listed};
 
@@ -212,15 +212,16 @@ fn over_files<D: Crash + Drop>(
 
 /// What comes of it over a log and a file of these octets, where the log fails at this call.
 pub(crate) fn opened_anew(
+    rt: &impl Abort,
     alloc: Global,
     octets: &Octets,
     call: u64,
     editions: &Editions,
     work: Work,
-) -> Result<Anew, Fail> {
+) -> Anew {
     let files = Files {
-        log: failing_disk(alloc, octets.log.as_slice(), call, true)?,
-        db: failing_disk(alloc, octets.db.as_slice(), u64::MAX, true)?,
+        log: failing_disk(alloc, octets.log.as_slice(), call, true).expect(rt, "a log"),
+        db: failing_disk(alloc, octets.db.as_slice(), u64::MAX, true).expect(rt, "a file"),
     };
-    Ok(over_files(alloc, files, editions, work))
+    over_files(alloc, files, editions, work)
 }

@@ -1,8 +1,9 @@
 //! One end of a connection over loopback.
+use crate::serving_checks::holds;
 use std::alloc::Global;
 use std::io::{ErrorKind, Read, Write};
 use std::net::{Net, SocketAddr, TcpStream};
-use std::test::Fail;
+use std::process::Abort;
 
 /// A client, and what came to it since the last look.
 #[derive(Drop)]
@@ -12,40 +13,36 @@ pub(crate) struct Client {
 }
 
 impl Client {
-    pub(crate) fn new(
-        net: &impl Net<Stream = TcpStream>,
+    pub(crate) fn new<N: Net<Stream = TcpStream> + Abort>(
+        rt: &N,
         alloc: Global,
         address: SocketAddr,
-    ) -> Result<Client, Fail> {
-        let stream = TcpStream::connect(net, address)?;
-        stream.set_nonblocking(true)?;
-        Ok(Client {
+    ) -> Client {
+        let stream = TcpStream::connect(rt, address).expect(rt, "a connection");
+        stream.set_nonblocking(true).expect(rt, "a connection");
+        Client {
             stream,
             got: Vec::new(alloc),
-        })
+        }
     }
 
     /// Sends octets, all at once.
-    pub(crate) fn send(&mut self, octets: &[u8]) -> Result<(), Fail> {
-        if self.stream.write(octets)? == octets.len() {
-            Ok(())
-        } else {
-            Err("not all was sent")?
-        }
+    pub(crate) fn send(&mut self, rt: &impl Abort, octets: &[u8]) {
+        let count = self.stream.write(octets).expect(rt, "a connection");
+        holds(rt, count == octets.len(), "the octets sent");
     }
 
     /// These octets alone have come.
-    pub(crate) fn poll(&mut self, want: &[u8]) -> Result<(), Fail> {
+    pub(crate) fn poll(&mut self, rt: &impl Abort, want: &[u8]) {
         let mut room = [0u8; 512];
         match self.stream.read(&mut room) {
-            Ok(count) => self.got.extend_from_slice(&room[..count])?,
-            Err(error) if error.kind() == ErrorKind::WouldBlock => {}
-            Err(error) => return Err(error)?,
+            Ok(count) => {
+                let octets = &room[..count];
+                self.got.extend_from_slice(octets).expect(rt, "memory");
+            }
+            Err(error) => assert!(rt; error.kind() == ErrorKind::WouldBlock, "{error:?}"),
         }
-        if self.got.as_slice() != want {
-            return Err("other octets came")?;
-        }
+        holds(rt, self.got.as_slice() == want, "the octets that came");
         self.got.clear();
-        Ok(())
     }
 }

@@ -5,7 +5,7 @@ use dict_catalogue::CommandRefusal;
 use dict_index::EditionRefusal;
 use dict_proto::LimitedSink;
 use std::alloc::Global;
-use std::test::Fail;
+use std::process::Abort;
 
 static FAULTS: [(ProgramFault<'static>, &str, u8); 14] = [
     (
@@ -63,18 +63,17 @@ static FAULTS: [(ProgramFault<'static>, &str, u8); 14] = [
 ];
 
 // Whether this is a fault's line, and its text by `Display` with the line's end.
-fn is_told(alloc: Global, fault: &ProgramFault<'static>, line: &str) -> Result<bool, Fail> {
-    let text = format!(in alloc; "{fault}\n")?;
-    let mut sink = LimitedSink::new(alloc, 100)?;
-    fault.put_line(&mut sink)?;
-    Ok(text.as_str() == line && sink.taken() == line.as_bytes())
+fn is_told(rt: &impl Abort, alloc: Global, fault: &ProgramFault<'static>, line: &str) -> bool {
+    let text = format!(in alloc; "{fault}\n").expect(rt, "memory");
+    let mut sink = LimitedSink::new(alloc, 100).expect(rt, "memory");
+    fault.put_line(&mut sink).expect(rt, "a line");
+    text.as_str() == line && sink.taken() == line.as_bytes()
 }
 
 #[test]
-fn each_fault_has_a_line_and_a_status(rt: HostRuntime) -> Result<(), Fail> {
+fn each_fault_has_a_line_and_a_status(rt: HostRuntime) {
     for (fault, text, status) in &FAULTS {
-        holds(&rt, is_told(rt.alloc(), fault, text)?, text);
+        holds(&rt, is_told(&rt, rt.alloc(), fault, text), text);
         same(&rt, &fault.status(), status);
     }
-    Ok(())
 }

@@ -4,7 +4,7 @@ use crate::checks::holds;
 use crate::files::Octets;
 use crate::stops::made;
 use std::alloc::Global;
-use std::test::Fail;
+use std::process::Abort;
 use store_fixtures::{Asked, Editions, Source, read_editions};
 
 // One command: gem is installed.
@@ -37,26 +37,27 @@ fn met_by(seen: &Seen) -> Met {
 // What comes of files of these octets where the log fails at this call: over a new catalogue after a stop; or over the one that is
 // there, where it matters if its command failed.
 fn met_at(
+    rt: &impl Abort,
     alloc: Global,
     editions: &Editions,
     octets: &Octets,
     call: u64,
     work: Work,
-) -> Result<Met, Fail> {
+) -> Met {
     let is_new = work == Work::Install;
-    let (done, met) = match opened_anew(alloc, octets, call, editions, work)? {
-        Anew::NoDesk => return Ok(Met::NoDesk),
+    let (done, met) = match opened_anew(rt, alloc, octets, call, editions, work) {
+        Anew::NoDesk => return Met::NoDesk,
         Anew::Opened(done, seen) => (done, met_by(&seen)),
         Anew::Spent(done) => (done, Met::Spent),
         Anew::Unopened(done) => (done, Met::Other),
     };
-    Ok(if done.is_applied == is_new {
+    if done.is_applied == is_new {
         met
     } else if is_new {
         Met::Other
     } else {
         Met::Nothing
-    })
+    }
 }
 
 /// How often files were opened again, and how often a sync had failed.
@@ -67,44 +68,40 @@ struct Count {
 }
 
 // Fails at each call, until there is no failure.
-fn fail_at_each(alloc: Global, editions: &Editions, octets: &Octets) -> Result<Count, Fail> {
+fn fail_at_each(rt: &impl Abort, alloc: Global, editions: &Editions, octets: &Octets) -> Count {
     let mut count = Count {
         reopened: 0,
         spent: 0,
     };
     for call in 0..5_000u64 {
-        match met_at(alloc, editions, octets, call, Work::Retire)? {
+        match met_at(rt, alloc, editions, octets, call, Work::Retire) {
             Met::NoDesk => {}
             Met::Reopened => count.reopened = count.reopened.saturating_add(1),
             Met::Spent => count.spent = count.spent.saturating_add(1),
-            Met::Nothing => return Ok(count),
-            Met::Other => return Err("other files were opened")?,
+            Met::Nothing => return count,
+            Met::Other => panic!(rt; "other files were opened"),
         }
     }
-    Ok(count)
+    count
 }
 
-fn is_reopened_when_new(alloc: Global, editions: &Editions) -> Result<bool, Fail> {
+fn is_reopened_when_new(rt: &impl Abort, alloc: Global, editions: &Editions) -> bool {
     let nothing = Octets {
         log: Vec::new(alloc),
         db: Vec::new(alloc),
     };
-    Ok(met_at(alloc, editions, &nothing, u64::MAX, Work::Install)? == Met::Reopened)
+    met_at(rt, alloc, editions, &nothing, u64::MAX, Work::Install) == Met::Reopened
 }
 
 // Two new files after a stop, and those that have the database after a failure of each call of the log.
 #[test]
-fn files_are_opened_again(rt: HostRuntime) -> Result<(), Fail> {
+fn files_are_opened_again(rt: HostRuntime) {
     let alloc = rt.alloc();
-    let editions = read_editions(alloc)?;
-    holds(
-        &rt,
-        is_reopened_when_new(alloc, &editions)?,
-        "two new files",
-    );
-    let octets = made(&rt, alloc, &editions, &GEM)?;
-    let count = fail_at_each(alloc, &editions, &octets)?;
+    let editions = read_editions(alloc).expect(&rt, "editions");
+    let is_so = is_reopened_when_new(&rt, alloc, &editions);
+    holds(&rt, is_so, "two new files");
+    let octets = made(&rt, alloc, &editions, &GEM);
+    let count = fail_at_each(&rt, alloc, &editions, &octets);
     holds(&rt, count.reopened > 0, "reopened");
     holds(&rt, count.spent > 0, "spent");
-    Ok(())
 }

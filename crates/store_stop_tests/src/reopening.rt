@@ -10,7 +10,7 @@ use sqlite::{Alter, Connection};
 use sqlite_disk::{Crash, Files};
 use std::alloc::Global;
 use std::net::{Net, TcpStream};
-use std::test::Fail;
+use std::process::Abort;
 use std::time::Duration;
 use store_desk::Desk;
 use store_fixtures::failing_disk;
@@ -83,133 +83,111 @@ struct Both {
 }
 
 impl Both {
-    fn client(&mut self, is_editor: bool) -> Result<&mut Client, Fail> {
+    fn client<'a>(&'a mut self, rt: &impl Abort, is_editor: bool) -> &'a mut Client {
         if !is_editor {
-            return Ok(&mut self.reader);
+            return &mut self.reader;
         }
         match &mut self.editor {
-            Some(editor) => Ok(editor),
-            None => Err(Fail::new("no editor")),
+            Some(editor) => editor,
+            None => panic!(rt; "no editor"),
         }
     }
 }
 
 fn serve<K: Preparer + Drop, W: DeskOpener<K>>(
+    rt: &impl Abort,
     desks: &mut W,
     driver: &mut Driver,
     rounds: u64,
-) -> Result<(), Fail> {
-    let Ok(desk) = desks.open(PATH) else {
-        return Err(Fail::new("not opened"));
-    };
+) {
+    let desk = desks.open(PATH).expect(rt, "a desk");
     let wait = Duration::from_millis(20);
-    match serve_rounds(desks, PATH, driver, desk, rounds, wait) {
-        Ok(desk) => {
-            let _ = desks.close(desk);
-            Ok(())
-        }
-        Err(_) => Err(Fail::new("serving failed")),
-    }
+    let served = serve_rounds(desks, PATH, driver, desk, rounds, wait);
+    let _ = desks.close(served.expect(rt, "a desk"));
 }
 
-fn take_step<N: Net<Stream = TcpStream>, K: Preparer + Drop, W: DeskOpener<K>>(
-    net: &N,
+fn take_step<N: Net<Stream = TcpStream> + Abort, K: Preparer + Drop, W: DeskOpener<K>>(
+    rt: &N,
     alloc: Global,
     desks: &mut W,
     driver: &mut Driver,
     both: &mut Both,
     step: Step,
-) -> Result<(), Fail> {
+) {
     match step {
         Step::Come => {
-            let editor = Client::new(net, alloc, driver.addresses().1)?;
+            let editor = Client::new(rt, alloc, driver.addresses().1);
             drop(both.editor.replace(editor));
         }
         Step::Leave => drop(both.editor.take()),
-        Step::Serve(rounds) => serve(desks, driver, rounds)?,
-        Step::Send(is_editor, octets) => both.client(is_editor)?.send(octets)?,
-        Step::Poll(is_editor, octets) => both.client(is_editor)?.poll(octets)?,
+        Step::Serve(rounds) => serve(rt, desks, driver, rounds),
+        Step::Send(is_editor, octets) => both.client(rt, is_editor).send(rt, octets),
+        Step::Poll(is_editor, octets) => both.client(rt, is_editor).poll(rt, octets),
     }
-    Ok(())
 }
 
 // A reader's session is open, and goes on over the catalogue that is opened anew after the failure.
-fn go_on<N: Net<Stream = TcpStream>, K: Preparer + Drop, W: DeskOpener<K>>(
-    net: &N,
+fn meet_a_failure<N: Net<Stream = TcpStream> + Abort, K: Preparer + Drop, W: DeskOpener<K>>(
+    rt: &N,
     alloc: Global,
     desks: &mut W,
     driver: &mut Driver,
-    both: &mut Both,
-) -> Result<(), Fail> {
-    for one in &STEPS {
-        take_step(net, alloc, desks, driver, both, *one)?;
-    }
-    Ok(())
-}
-
-fn meet_a_failure<N: Net<Stream = TcpStream>, K: Preparer + Drop, W: DeskOpener<K>>(
-    net: &N,
-    alloc: Global,
-    desks: &mut W,
-    driver: &mut Driver,
-) -> Result<(), Fail> {
-    let (dict, _) = driver.addresses();
+) {
     let mut both = Both {
-        reader: Client::new(net, alloc, dict)?,
+        reader: Client::new(rt, alloc, driver.addresses().0),
         editor: None,
     };
-    let end = go_on(net, alloc, desks, driver, &mut both);
+    for one in &STEPS {
+        take_step(rt, alloc, desks, driver, &mut both, *one);
+    }
     drop(both);
-    end
 }
 
 // The same over a new server.
-fn meet_a_failure_anew<K: Preparer + Drop, W: DeskOpener<K>>(
-    rt: &HostRuntime,
+fn meet_a_failure_anew<N: Net<Stream = TcpStream> + Abort, K: Preparer + Drop, W: DeskOpener<K>>(
+    rt: &N,
     alloc: Global,
     desks: &mut W,
-) -> Result<(), Fail> {
-    let mut driver = Driver::bind(&System, rt, alloc, FREE, FREE, "localhost")?;
-    let end = meet_a_failure(rt, alloc, desks, &mut driver);
+) {
+    let driver = Driver::bind(&System, rt, alloc, FREE, FREE, "localhost");
+    let mut driver = driver.expect(rt, "a driver");
+    meet_a_failure(rt, alloc, desks, &mut driver);
     drop(driver);
-    end
 }
 
 // How often the catalogue in this database was opened anew.
-fn reopened<S: Alter + Drop, M: Machine<Desk<S>> + Drop>(
-    rt: &HostRuntime,
+fn reopened<N: Net<Stream = TcpStream> + Abort, S: Alter + Drop, M: Machine<Desk<S>> + Drop>(
+    rt: &N,
     alloc: Global,
     machine: M,
     conn: Connection<S>,
-) -> Result<u64, Fail> {
+) -> u64 {
     let mut desks = Held::new(alloc, machine, conn);
-    let end = meet_a_failure_anew(rt, alloc, &mut desks);
+    meet_a_failure_anew(rt, alloc, &mut desks);
     let reopened = desks.reopened;
     drop(desks);
-    end?;
-    Ok(reopened)
+    reopened
 }
 
 // The same of a database on these disks.
-fn reopened_on<D: Crash + Drop>(
-    rt: &HostRuntime,
+fn reopened_on<N: Net<Stream = TcpStream> + Abort, D: Crash + Drop>(
+    rt: &N,
     alloc: Global,
     files: Files<D>,
-) -> Result<u64, Fail> {
+) -> u64 {
     match opened(alloc, files) {
         Ok(conn) => reopened(rt, alloc, TwoDisks, conn),
-        Err(_) => Err(Fail::new("no database")),
+        Err(_) => panic!(rt; "no database"),
     }
 }
 
 #[test]
-fn a_session_outlives_a_failed_store(rt: HostRuntime) -> Result<(), Fail> {
+fn a_session_outlives_a_failed_store(rt: HostRuntime) {
     let alloc = rt.alloc();
     // The file of the log answers so many calls: those by which the catalogue is made and read, and some of the install.
     let files = Files {
-        log: failing_disk(alloc, &[], 40, false)?,
-        db: failing_disk(alloc, &[], u64::MAX, false)?,
+        log: failing_disk(alloc, &[], 40, false).expect(&rt, "a log"),
+        db: failing_disk(alloc, &[], u64::MAX, false).expect(&rt, "a file"),
     };
-    holds(&rt, reopened_on(&rt, alloc, files)? == 1, "once");
-    Ok(())
+    holds(&rt, reopened_on(&rt, alloc, files) == 1, "once");
 }

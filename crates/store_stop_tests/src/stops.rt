@@ -11,7 +11,6 @@ use sqlite::{Alter, Connection, Files};
 use sqlite_disk::Crash;
 use std::alloc::Global;
 use std::process::Abort;
-use std::test::Fail;
 use store_desk::{Desk, apply_to_file};
 use store_fixtures::{
     Asked, Editions, Failing, Older, Rows, Source, accept_all, batched, failing_disk, older_files,
@@ -130,33 +129,32 @@ struct Ended {
 
 // Whether the outcomes are those.
 fn are_answered(
+    rt: &impl Abort,
     alloc: Global,
     outcomes: &[Result<Kept, CommandRefusal>],
     wanted: &[String],
-) -> Result<bool, Fail> {
+) -> bool {
     for (outcome, wanted) in outcomes.iter().zip(wanted.iter()) {
-        if told_outcome(alloc, outcome)?.as_str() != wanted.as_str() {
-            return Ok(false);
+        let text = told_outcome(alloc, outcome).expect(rt, "memory");
+        if text.as_str() != wanted.as_str() {
+            return false;
         }
     }
-    Ok(outcomes.len() == wanted.len())
+    outcomes.len() == wanted.len()
 }
 
 // Each call of a closed desk answers so.
-fn answers_nothing<K: Keeper>(alloc: Global, desk: &mut K) -> Result<bool, Fail> {
-    let query = key_of(alloc, "o")?;
+fn answers_nothing<K: Keeper>(rt: &impl Abort, alloc: Global, desk: &mut K) -> bool {
+    let query = key_of(alloc, "o").expect(rt, "a key");
     let mut rows = Rows::new(alloc, 9);
     let retire = Command::Retire { name: "gem" };
-    Ok(
-        desk.find(1, Strategy::Suffix, &query, What::Entries, &mut rows) == Err(Fault::Closed)
-            && desk.find(1, Strategy::Suffix, &query, What::Headwords, &mut rows)
-                == Err(Fault::Closed)
-            && desk.count(1, Strategy::Suffix, &query, What::Entries) == Err(Fault::Closed)
-            && desk.info(1, &mut rows) == Err(Fault::Closed)
-            && matches!(desk.summary(), Err(Fault::Closed))
-            && matches!(desk.kept("a"), Err(Fault::Closed))
-            && matches!(desk.apply("z", &retire), Err(Fault::Closed)),
-    )
+    desk.find(1, Strategy::Suffix, &query, What::Entries, &mut rows) == Err(Fault::Closed)
+        && desk.find(1, Strategy::Suffix, &query, What::Headwords, &mut rows) == Err(Fault::Closed)
+        && desk.count(1, Strategy::Suffix, &query, What::Entries) == Err(Fault::Closed)
+        && desk.info(1, &mut rows) == Err(Fault::Closed)
+        && matches!(desk.summary(), Err(Fault::Closed))
+        && matches!(desk.kept("a"), Err(Fault::Closed))
+        && matches!(desk.apply("z", &retire), Err(Fault::Closed))
 }
 
 // Does the commands.
@@ -165,19 +163,16 @@ fn done<S: Alter + Drop>(
     alloc: Global,
     desk: &mut Desk<S>,
     sweep: &Sweep<'_>,
-) -> Result<Ended, Fail> {
+) -> Ended {
     match apply_to_file(alloc, desk, sweep.requests) {
         Ok(outcomes) => {
-            holds(
-                rt,
-                are_answered(alloc, &outcomes, sweep.answers)?,
-                "the answers",
-            );
-            Ok(Ended {
+            let is_so = are_answered(rt, alloc, &outcomes, sweep.answers);
+            holds(rt, is_so, "the answers");
+            Ended {
                 is_open: true,
                 stand: outcomes.len(),
                 fault: None,
-            })
+            }
         }
         Err(halted) => {
             holds(
@@ -185,11 +180,11 @@ fn done<S: Alter + Drop>(
                 desk.is_closed() && desk.audit() == Err(Fault::Closed),
                 "a closed desk",
             );
-            Ok(Ended {
+            Ended {
                 is_open: true,
                 stand: halted.stand,
                 fault: Some(halted.fault),
-            })
+            }
         }
     }
 }
@@ -209,8 +204,8 @@ fn stands<K: Keeper>(
     desk: &mut K,
     sweep: &Sweep<'_>,
     ended: Ended,
-) -> Result<(), Fail> {
-    let now = shown(alloc, desk)?;
+) {
+    let now = shown(alloc, desk).expect(rt, "a catalogue");
     let next = ended.stand.saturating_add(1);
     let may_be_next = ended.is_open && ended.fault.is_some();
     let is_this = is_shown(sweep.states, ended.stand, now.as_str());
@@ -218,16 +213,12 @@ fn stands<K: Keeper>(
     holds(rt, is_this || is_next, now.as_str());
     let first = ended.stand.min(sweep.requests.len().saturating_sub(1));
     for (request, wanted) in sweep.requests.iter().zip(sweep.answers.iter()).skip(first) {
-        let answer = told(alloc, &desk.apply(request.0, &request.1))?;
+        let answer = told(alloc, &desk.apply(request.0, &request.1)).expect(rt, "memory");
         same_text(rt, answer.as_str(), wanted.as_str(), request.0);
     }
-    let last = shown(alloc, desk)?;
-    holds(
-        rt,
-        is_shown(sweep.states, sweep.requests.len(), last.as_str()),
-        last.as_str(),
-    );
-    Ok(())
+    let last = shown(alloc, desk).expect(rt, "a catalogue");
+    let is_last = is_shown(sweep.states, sweep.requests.len(), last.as_str());
+    holds(rt, is_last, last.as_str());
 }
 
 // The desk of a database that is found, or of one that is made where none may be there.
@@ -262,26 +253,18 @@ fn desk_for<S: Alter + Drop>(
 }
 
 // What is done over any desk; after a run, what its desk answers that is closed.
-fn kept_by<K: Keeper>(
-    rt: &impl Abort,
-    alloc: Global,
-    desk: &mut K,
-    work: &Work<'_>,
-    ended: Ended,
-) -> Result<Ended, Fail> {
+fn kept_by<K: Keeper>(rt: &impl Abort, alloc: Global, desk: &mut K, work: &Work<'_>, ended: Ended) {
     match work {
-        Work::Make(editions, asked) => accept_all(desk, editions, asked)?,
-        Work::Look(sweep, before) => stands(rt, alloc, desk, sweep, *before)?,
+        Work::Make(editions, asked) => {
+            accept_all(desk, editions, asked).expect(rt, "accepted commands");
+        }
+        Work::Look(sweep, before) => stands(rt, alloc, desk, sweep, *before),
         Work::Run(_) if ended.fault.is_some() => {
-            holds(
-                rt,
-                answers_nothing(alloc, desk)?,
-                "each call of a closed desk",
-            );
+            let is_so = answers_nothing(rt, alloc, desk);
+            holds(rt, is_so, "each call of a closed desk");
         }
         _ => {}
     }
-    Ok(ended)
 }
 
 // Does it.
@@ -290,42 +273,40 @@ fn work_on<S: Alter + Drop>(
     alloc: Global,
     desk: &mut Desk<S>,
     work: &Work<'_>,
-) -> Result<Ended, Fail> {
+) -> Ended {
     let ended = match work {
-        Work::Run(sweep) => done(rt, alloc, desk, sweep)?,
+        Work::Run(sweep) => done(rt, alloc, desk, sweep),
         _ => Ended {
             is_open: true,
             stand: 0,
             fault: None,
         },
     };
-    let ended = kept_by(rt, alloc, desk, work, ended)?;
+    kept_by(rt, alloc, desk, work, ended);
     if matches!(work, Work::Look(_, _)) {
         holds(rt, desk.audit().is_ok(), "a sound desk");
     }
-    Ok(ended)
+    ended
 }
 
 // How the work ended, where there is no desk for it.
-fn without_a_desk(work: &Work<'_>, fault: Fault) -> Result<Ended, Fail> {
-    match work {
-        Work::Run(_) => Ok(Ended {
-            is_open: false,
-            stand: 0,
-            fault: Some(fault),
-        }),
-        _ => Err(Fail::new("no catalogue")),
+fn without_a_desk(rt: &impl Abort, work: &Work<'_>, fault: Fault) -> Ended {
+    holds(rt, matches!(work, Work::Run(_)), "a catalogue");
+    Ended {
+        is_open: false,
+        stand: 0,
+        fault: Some(fault),
     }
 }
 
 // Writes a file.
-fn written<S: Alter>(conn: &mut Connection<S>, texts: &Older) -> Result<Ended, Fail> {
-    batched(conn, texts.as_slice())?;
-    Ok(Ended {
+fn written<S: Alter>(rt: &impl Abort, conn: &mut Connection<S>, texts: &Older) -> Ended {
+    batched(conn, texts.as_slice()).expect(rt, "an older file");
+    Ended {
         is_open: false,
         stand: 0,
         fault: None,
-    })
+    }
 }
 
 fn work_over<S: Alter + Drop>(
@@ -333,10 +314,10 @@ fn work_over<S: Alter + Drop>(
     alloc: Global,
     conn: Connection<S>,
     work: &Work<'_>,
-) -> (Connection<S>, Result<Ended, Fail>) {
+) -> (Connection<S>, Ended) {
     if let Work::Write(texts) = work {
         let mut conn = conn;
-        let ended = written(&mut conn, *texts);
+        let ended = written(rt, &mut conn, *texts);
         return (conn, ended);
     }
     match desk_for(alloc, conn, work) {
@@ -345,7 +326,7 @@ fn work_over<S: Alter + Drop>(
             let ended = work_on(rt, alloc, &mut desk, work);
             (desk.into_connection(), ended)
         }
-        Err((conn, fault)) => (conn, without_a_desk(work, fault)),
+        Err((conn, fault)) => (conn, without_a_desk(rt, work, fault)),
     }
 }
 
@@ -355,7 +336,7 @@ fn over_files<D: Crash + Drop>(
     alloc: Global,
     files: Files<D>,
     work: &Work<'_>,
-) -> (Files<D>, Result<Ended, Fail>) {
+) -> (Files<D>, Ended) {
     let files = match work {
         Work::Look(_, _) => crashed(files),
         _ => files,
@@ -366,7 +347,7 @@ fn over_files<D: Crash + Drop>(
             let is_whole = matches!(work, Work::Make(_, _) | Work::Write(_));
             (closed(conn, is_whole), ended)
         }
-        Err(files) => (files, without_a_desk(work, Fault::Disk)),
+        Err(files) => (files, without_a_desk(rt, work, Fault::Disk)),
     }
 }
 
@@ -376,42 +357,33 @@ fn over_failing(
     alloc: Global,
     files: Files<Failing>,
     work: &Work<'_>,
-) -> (Files<Failing>, Result<Ended, Fail>) {
+) -> (Files<Failing>, Ended) {
     over_files(rt, alloc, files, work)
 }
 
 // What two files of these octets have after this work.
-fn made_by(
-    rt: &impl Abort,
-    alloc: Global,
-    log: &[u8],
-    db: &[u8],
-    work: &Work<'_>,
-) -> Result<Octets, Fail> {
+fn made_by(rt: &impl Abort, alloc: Global, log: &[u8], db: &[u8], work: &Work<'_>) -> Octets {
     let files = Files {
-        log: failing_disk(alloc, log, u64::MAX, true)?,
-        db: failing_disk(alloc, db, u64::MAX, true)?,
+        log: failing_disk(alloc, log, u64::MAX, true).expect(rt, "a log"),
+        db: failing_disk(alloc, db, u64::MAX, true).expect(rt, "a file"),
     };
-    let (files, ended) = over_failing(rt, alloc, files, work);
-    let _ended = ended?;
-    Ok(Octets {
-        log: files.log.inner.inner().bytes().to_vec(alloc)?,
-        db: files.db.inner.inner().bytes().to_vec(alloc)?,
-    })
+    let (files, _) = over_failing(rt, alloc, files, work);
+    let log = files.log.inner.inner().bytes().to_vec(alloc);
+    let db = files.db.inner.inner().bytes().to_vec(alloc);
+    drop(files);
+    Octets {
+        log: log.expect(rt, "memory"),
+        db: db.expect(rt, "memory"),
+    }
 }
 
 /// What two files have after these commands over a new catalogue.
-pub(crate) fn made(
-    rt: &impl Abort,
-    alloc: Global,
-    editions: &Editions,
-    asked: Steps,
-) -> Result<Octets, Fail> {
+pub(crate) fn made(rt: &impl Abort, alloc: Global, editions: &Editions, asked: Steps) -> Octets {
     made_by(rt, alloc, &[], &[], &Work::Make(editions, asked))
 }
 
 // Whether the files are the same after they were opened.
-fn stay_when_opened(rt: &impl Abort, alloc: Global, octets: &Octets) -> Result<bool, Fail> {
+fn stay_when_opened(rt: &impl Abort, alloc: Global, octets: &Octets) -> bool {
     let log = octets.log.as_slice();
     let db = octets.db.as_slice();
     let sweep = Sweep {
@@ -422,8 +394,8 @@ fn stay_when_opened(rt: &impl Abort, alloc: Global, octets: &Octets) -> Result<b
         answers: &[],
         states: &[],
     };
-    let after = made_by(rt, alloc, log, db, &Work::Run(&sweep))?;
-    Ok(after.log.as_slice() == log && after.db.as_slice() == db)
+    let after = made_by(rt, alloc, log, db, &Work::Run(&sweep));
+    after.log.as_slice() == log && after.db.as_slice() == db
 }
 
 // One run with a failure at this call of one file, and how it ended, where there was a failure. Without one no command fails.
@@ -433,39 +405,38 @@ fn fails_at(
     sweep: &Sweep<'_>,
     mode: Mode,
     call: u64,
-) -> Result<Option<Ended>, Fail> {
+) -> Option<Ended> {
     let (log_call, db_call) = if mode.in_log {
         (call, u64::MAX)
     } else {
         (u64::MAX, call)
     };
     let files = Files {
-        log: failing_disk(alloc, sweep.log, log_call, mode.goes_on)?,
-        db: failing_disk(alloc, sweep.db, db_call, mode.goes_on)?,
+        log: failing_disk(alloc, sweep.log, log_call, mode.goes_on).expect(rt, "a log"),
+        db: failing_disk(alloc, sweep.db, db_call, mode.goes_on).expect(rt, "a file"),
     };
     let (files, ended) = over_failing(rt, alloc, files, &Work::Run(sweep));
     let has_failed = files.log.calls > log_call || files.db.calls > db_call;
-    let ended = ended?;
     match ended.fault {
         Some(fault) => holds(rt, has_failed && fault == Fault::Disk, "a failed call"),
         None => holds(rt, ended.is_open, "a desk"),
     }
-    let (_, looked) = over_failing(rt, alloc, files, &Work::Look(sweep, ended));
-    let _looked = looked?;
-    Ok(if has_failed { Some(ended) } else { None })
+    let (files, _) = over_failing(rt, alloc, files, &Work::Look(sweep, ended));
+    drop(files);
+    if has_failed { Some(ended) } else { None }
 }
 
 // A failure at each call of one file, until there is none. Some of those of the log are in the middle of a command.
-fn sweep_all(rt: &impl Abort, alloc: Global, sweep: &Sweep<'_>, mode: Mode) -> Result<(), Fail> {
+fn sweep_all(rt: &impl Abort, alloc: Global, sweep: &Sweep<'_>, mode: Mode) {
     let mut halted = sweep.requests.is_empty() || !mode.in_log;
     for call in 0..5_000u64 {
-        let Some(ended) = fails_at(rt, alloc, sweep, mode, call)? else {
+        let Some(ended) = fails_at(rt, alloc, sweep, mode, call) else {
             holds(rt, halted, "a failure");
-            return Ok(());
+            return;
         };
         halted = halted || (ended.is_open && ended.fault.is_some());
     }
-    Err("each run failed")?
+    panic!(rt; "each run failed")
 }
 
 /// The answers of commands, and what is shown before them and after each.
@@ -477,30 +448,35 @@ struct Expected {
 
 // What a desk in memory answers and shows.
 fn answers_of<K: Keeper>(
+    rt: &impl Abort,
     alloc: Global,
     desk: &mut K,
     requests: &[(&str, Command)],
-) -> Result<Expected, Fail> {
+) -> Expected {
     let mut answers = Vec::new(alloc);
     let mut states = Vec::new(alloc);
-    states.push(shown(alloc, desk)?)?;
+    let first = shown(alloc, desk).expect(rt, "a catalogue");
+    states.push(first).expect(rt, "memory");
     for request in requests {
-        answers.push(told(alloc, &desk.apply(request.0, &request.1))?)?;
-        states.push(shown(alloc, desk)?)?;
+        let answer = told(alloc, &desk.apply(request.0, &request.1)).expect(rt, "memory");
+        answers.push(answer).expect(rt, "memory");
+        let state = shown(alloc, desk).expect(rt, "a catalogue");
+        states.push(state).expect(rt, "memory");
     }
-    Ok(Expected { answers, states })
+    Expected { answers, states }
 }
 
 // The same over the catalogue that these commands make.
 fn answers_over(
+    rt: &impl Abort,
     alloc: Global,
     editions: &Editions,
     before: Steps,
     requests: &[(&str, Command)],
-) -> Result<Expected, Fail> {
+) -> Expected {
     let mut plain = PlainDesk::new(alloc);
-    accept_all(&mut plain, editions, before)?;
-    answers_of(alloc, &mut plain, requests)
+    accept_all(&mut plain, editions, before).expect(rt, "accepted commands");
+    answers_of(rt, alloc, &mut plain, requests)
 }
 
 // The commands of a case over the two files that those before them make, or over no files at all.
@@ -511,9 +487,9 @@ fn sweep_over(
     case: Case,
     octets: &Octets,
     mode: Mode,
-) -> Result<(), Fail> {
-    let requests = requests(alloc, editions, case.1)?;
-    let expected = answers_over(alloc, editions, case.0, &requests)?;
+) {
+    let requests = requests(alloc, editions, case.1).expect(rt, "memory");
+    let expected = answers_over(rt, alloc, editions, case.0, &requests);
     let sweep = Sweep {
         is_new: octets.db.is_empty(),
         log: octets.log.as_slice(),
@@ -522,31 +498,29 @@ fn sweep_over(
         answers: expected.answers.as_slice(),
         states: expected.states.as_slice(),
     };
-    sweep_all(rt, alloc, &sweep, mode)
+    sweep_all(rt, alloc, &sweep, mode);
 }
 
-fn sweep_cases(rt: &impl Abort, alloc: Global, mode: Mode) -> Result<(), Fail> {
-    let editions = read_editions(alloc)?;
+fn sweep_cases(rt: &impl Abort, alloc: Global, mode: Mode) {
+    let editions = read_editions(alloc).expect(rt, "editions");
     let nothing = Octets {
         log: Vec::new(alloc),
         db: Vec::new(alloc),
     };
-    sweep_over(rt, alloc, &editions, Case(&[], &[]), &nothing, mode)?;
+    sweep_over(rt, alloc, &editions, Case(&[], &[]), &nothing, mode);
     for case in &CASES {
-        let octets = made(rt, alloc, &editions, case.0)?;
-        sweep_over(rt, alloc, &editions, *case, &octets, mode)?;
+        let octets = made(rt, alloc, &editions, case.0);
+        sweep_over(rt, alloc, &editions, *case, &octets, mode);
     }
-    Ok(())
 }
 
 // Files of older schemas, of which the tables of the known one are made first.
-fn sweep_migrations(rt: &impl Abort, alloc: Global, mode: Mode) -> Result<(), Fail> {
-    let editions = read_editions(alloc)?;
+fn sweep_migrations(rt: &impl Abort, alloc: Global, mode: Mode) {
+    let editions = read_editions(alloc).expect(rt, "editions");
     for texts in older_files() {
-        let octets = made_by(rt, alloc, &[], &[], &Work::Write(texts))?;
-        sweep_over(rt, alloc, &editions, MIGRATED, &octets, mode)?;
+        let octets = made_by(rt, alloc, &[], &[], &Work::Write(texts));
+        sweep_over(rt, alloc, &editions, MIGRATED, &octets, mode);
     }
-    Ok(())
 }
 
 // A stop of one file, and of the other, and a failure of each after which it goes on.
@@ -570,38 +544,29 @@ static MODES: [Mode; 4] = [
 ];
 
 #[test]
-fn a_stop_or_a_failure_of_each_call(rt: HostRuntime) -> Result<(), Fail> {
+fn a_stop_or_a_failure_of_each_call(rt: HostRuntime) {
     for mode in &MODES {
-        sweep_cases(&rt, rt.alloc(), *mode)?;
+        sweep_cases(&rt, rt.alloc(), *mode);
     }
-    Ok(())
 }
 
 #[test]
-fn a_stop_or_a_failure_of_each_call_of_a_migration(rt: HostRuntime) -> Result<(), Fail> {
+fn a_stop_or_a_failure_of_each_call_of_a_migration(rt: HostRuntime) {
     for mode in &MODES {
-        sweep_migrations(&rt, rt.alloc(), *mode)?;
+        sweep_migrations(&rt, rt.alloc(), *mode);
     }
-    Ok(())
 }
 
 #[test]
-fn an_opening_writes_to_older_files_alone(rt: HostRuntime) -> Result<(), Fail> {
+fn an_opening_writes_to_older_files_alone(rt: HostRuntime) {
     let alloc = rt.alloc();
-    let editions = read_editions(alloc)?;
-    let known = made(&rt, alloc, &editions, MIGRATED.0)?;
-    holds(
-        &rt,
-        stay_when_opened(&rt, alloc, &known)?,
-        "the known schema",
-    );
+    let editions = read_editions(alloc).expect(&rt, "editions");
+    let known = made(&rt, alloc, &editions, MIGRATED.0);
+    let is_same = stay_when_opened(&rt, alloc, &known);
+    holds(&rt, is_same, "the known schema");
     for texts in older_files() {
-        let older = made_by(&rt, alloc, &[], &[], &Work::Write(texts))?;
-        holds(
-            &rt,
-            !stay_when_opened(&rt, alloc, &older)?,
-            "an older schema",
-        );
+        let older = made_by(&rt, alloc, &[], &[], &Work::Write(texts));
+        let is_same = stay_when_opened(&rt, alloc, &older);
+        holds(&rt, !is_same, "an older schema");
     }
-    Ok(())
 }

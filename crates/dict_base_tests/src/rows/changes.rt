@@ -7,7 +7,6 @@ use super::records::{
 use crate::checks::{holds, same};
 use dict_catalogue::Summary;
 use std::process::Abort;
-use std::test::Fail;
 
 fn look_at_the_whole(rt: &impl Abort, summary: &Summary) {
     same(rt, &summary.items.len(), &3);
@@ -19,15 +18,16 @@ fn look_at_the_whole(rt: &impl Abort, summary: &Summary) {
 }
 
 #[test]
-fn whole_and_empty_catalogues(rt: HostRuntime) -> Result<(), Fail> {
-    let summary = summary_after(rt.alloc(), &WHOLE, &[])?;
+fn whole_and_empty_catalogues(rt: HostRuntime) {
+    let read = summary_after(&rt, rt.alloc(), &WHOLE, &[]);
+    let summary = read.expect(&rt, "a catalogue");
     look_at_the_whole(&rt, &summary);
     drop(summary);
     let mark = Change::Marks(&[MarkRow("dictcat", 1, 0)]);
-    let summary = summary_after(rt.alloc(), &[mark], &[])?;
+    let read = summary_after(&rt, rt.alloc(), &[mark], &[]);
+    let summary = read.expect(&rt, "a catalogue");
     same(&rt, &summary.items.len(), &0);
     drop(summary);
-    Ok(())
 }
 
 static DAMAGED: [Change<'static>; 23] = [
@@ -113,6 +113,6 @@ static DAMAGED: [Change<'static>; 23] = [
 #[test]
 fn changes_that_leave_no_catalogue(rt: HostRuntime) {
     for change in &DAMAGED {
-        holds(&rt, is_damaged_with(rt.alloc(), *change), "a change");
+        holds(&rt, is_damaged_with(&rt, rt.alloc(), *change), "a change");
     }
 }

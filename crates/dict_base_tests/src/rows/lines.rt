@@ -6,7 +6,6 @@ use crate::checks::{holds, same};
 use dict_catalogue::Summary;
 use std::alloc::Global;
 use std::process::Abort;
-use std::test::Fail;
 use store_rows::{Reader, RowsFault};
 
 /// The headword of a line, the interval of the text that is its body, and what is shown.
@@ -29,45 +28,46 @@ static DAMAGED: [LineRow; 3] = [
 ];
 
 fn read_lines(
+    rt: &impl Abort,
     alloc: Global,
     reader: &mut Reader,
     row: EditionRow<'_>,
     lines: &[LineRow],
 ) -> Result<(), RowsFault> {
-    reader.edition(edition(alloc, row)?.edition.value)?;
+    reader.edition(edition(rt, alloc, row).edition.value)?;
     for line in lines {
         reader.line(alloc, line.0, line.1, line.2, line.3)?;
     }
     Ok(())
 }
 
-fn read_whole(alloc: Global, rows: &Rows) -> Result<Summary, RowsFault> {
-    let mut reader = begin(alloc, rows)?;
-    read_lines(alloc, &mut reader, ORE, &ORE_LINES)?;
-    read_lines(alloc, &mut reader, GEM, &GEM_LINES)?;
-    read_replies(&mut reader, rows)?;
-    reader.finish()
+fn read_whole(rt: &impl Abort, alloc: Global, rows: &Rows) -> Summary {
+    let mut reader = begin(alloc, rows).expect(rt, "a reader");
+    let read = read_lines(rt, alloc, &mut reader, ORE, &ORE_LINES);
+    read.expect(rt, "the lines of ore");
+    let read = read_lines(rt, alloc, &mut reader, GEM, &GEM_LINES);
+    read.expect(rt, "the lines of gem");
+    read_replies(&mut reader, rows).expect(rt, "the replies");
+    reader.finish().expect(rt, "a catalogue")
 }
 
-fn look_at_lines(rt: &impl Abort, alloc: Global, rows: &mut Rows) -> Result<(), RowsFault> {
-    put_all(alloc, rows, &WHOLE)?;
-    let summary = read_whole(alloc, rows)?;
+fn look_at_lines(rt: &impl Abort, alloc: Global, rows: &mut Rows) {
+    put_all(rt, alloc, rows, &WHOLE);
+    let summary = read_whole(rt, alloc, rows);
     same(rt, &summary.items.len(), &3);
     holds(rt, says(summary.items.get(1), "gem", "Gems"), "gem");
     drop(summary);
     for line in &DAMAGED {
-        let mut reader = begin(alloc, rows)?;
-        let read = read_lines(alloc, &mut reader, ORE, &[*line]);
+        let mut reader = begin(alloc, rows).expect(rt, "a reader");
+        let read = read_lines(rt, alloc, &mut reader, ORE, &[*line]);
         drop(reader);
         holds(rt, read.err() == Some(RowsFault::Damaged), line.0);
     }
-    Ok(())
 }
 
 #[test]
-fn lines_of_a_catalogue_and_of_none(rt: HostRuntime) -> Result<(), Fail> {
+fn lines_of_a_catalogue_and_of_none(rt: HostRuntime) {
     let mut rows = empty(rt.alloc());
-    let end = look_at_lines(&rt, rt.alloc(), &mut rows);
+    look_at_lines(&rt, rt.alloc(), &mut rows);
     drop(rows);
-    Ok(end?)
 }

@@ -1,67 +1,56 @@
 //! What comes in order, and the records that the parts of a catalogue are written as.
 
-use super::records::{EditionRow, GEM, ORE, Rows, WHOLE, edition, empty, put_all};
+use super::readings::{begin, read_replies};
+use super::records::{EditionRow, GEM, ORE, Rows, WHOLE, edition, empty, owned, put_all};
 use crate::checks::{holds, same};
 use dict_catalogue::{Item, Kept, StoredTitle, Verb};
-use std::alloc::{AllocError, Global};
+use std::alloc::Global;
 use std::process::Abort;
-use std::test::Fail;
 use store_rows::{
     IdReader, Reader, RowidReader, RowsFault, item_row, kept_row, mark_row, member_row,
 };
 
-fn id(alloc: Global, ids: &mut IdReader, text: &str) -> Result<(), RowsFault> {
-    ids.id(String::from_str(alloc, text)?)
-}
-
 #[test]
-fn ids_and_rowids_that_come_twice(rt: HostRuntime) -> Result<(), Fail> {
+fn ids_and_rowids_that_come_twice(rt: HostRuntime) {
     let mut ids = IdReader::new();
-    id(rt.alloc(), &mut ids, "r1")?;
-    id(rt.alloc(), &mut ids, "r2")?;
-    let again = id(rt.alloc(), &mut ids, "r2");
+    ids.id(owned(&rt, rt.alloc(), "r1")).expect(&rt, "an id");
+    ids.id(owned(&rt, rt.alloc(), "r2")).expect(&rt, "an id");
+    let again = ids.id(owned(&rt, rt.alloc(), "r2"));
     same(&rt, &again.err(), &Some(RowsFault::Damaged));
     drop(ids);
     let mut rowids = RowidReader::new();
-    rowids.rowid(-5)?;
-    rowids.rowid(0)?;
-    rowids.rowid(9_223_372_036_854_775_807)?;
+    rowids.rowid(-5).expect(&rt, "a rowid");
+    rowids.rowid(0).expect(&rt, "a rowid");
+    let last = rowids.rowid(9_223_372_036_854_775_807);
+    last.expect(&rt, "a rowid");
     let again = rowids.rowid(9_223_372_036_854_775_807);
     same(&rt, &again.err(), &Some(RowsFault::Damaged));
-    Ok(())
 }
 
 /// Hands an edition and its entries to the reader, which lets go of the one before.
-fn read_group(alloc: Global, reader: &mut Reader, row: EditionRow<'_>) -> Result<(), Fail> {
+fn read_group(rt: &impl Abort, alloc: Global, reader: &mut Reader, row: EditionRow<'_>) {
     reader.let_go();
-    let group = edition(alloc, row)?;
-    reader.edition(group.edition.value)?;
+    let group = edition(rt, alloc, row);
+    let read = reader.edition(group.edition.value);
+    read.expect(rt, "an edition");
     for entry in &group.entries {
-        reader.entry(alloc, &entry.value, &entry.value.headword)?;
+        let read = reader.entry(alloc, &entry.value, &entry.value.headword);
+        read.expect(rt, "an entry");
     }
-    Ok(())
-}
-
-fn read_all(rt: &impl Abort, alloc: Global, reader: &mut Reader, rows: &Rows) -> Result<(), Fail> {
-    let numbers = reader.numbers(alloc)?;
-    holds(rt, numbers.as_slice() == [1, 2].as_slice(), "numbers");
-    drop(numbers);
-    read_group(alloc, reader, ORE)?;
-    read_group(alloc, reader, GEM)?;
-    for row in &rows.kept {
-        reader.kept(&row.value)?;
-    }
-    Ok(())
 }
 
 // An edition's text is let go of before the next.
-fn text_is_let_go(rt: &impl Abort, alloc: Global, rows: &Rows) -> Result<(), Fail> {
-    let mut reader = Reader::begin(alloc, 1, &rows.marks, &rows.items, &rows.members)?;
-    read_all(rt, alloc, &mut reader, rows)?;
-    let summary = reader.finish()?;
+fn text_is_let_go(rt: &impl Abort, alloc: Global, rows: &Rows) {
+    let mut reader = begin(alloc, rows).expect(rt, "a reader");
+    let numbers = reader.numbers(alloc).expect(rt, "the numbers");
+    holds(rt, numbers.as_slice() == [1, 2].as_slice(), "numbers");
+    drop(numbers);
+    read_group(rt, alloc, &mut reader, ORE);
+    read_group(rt, alloc, &mut reader, GEM);
+    read_replies(&mut reader, rows).expect(rt, "the replies");
+    let summary = reader.finish().expect(rt, "a catalogue");
     same(rt, &summary.items.len(), &3);
     drop(summary);
-    Ok(())
 }
 
 // Whether these are the mark and a member.
@@ -75,11 +64,11 @@ fn has_mark_and_member(rows: &Rows) -> bool {
     }
 }
 
-fn look_at_kept(rt: &impl Abort, alloc: Global, rows: &Rows) -> Result<(), AllocError> {
+fn look_at_kept(rt: &impl Abort, alloc: Global, rows: &Rows) {
     let reply = Kept {
         number: 2,
         verb: Verb::Install,
-        name: String::from_str(alloc, "gem")?,
+        name: owned(rt, alloc, "gem"),
         edition: Some(2),
     };
     let is_so = match rows.kept.get(1) {
@@ -88,12 +77,11 @@ fn look_at_kept(rt: &impl Abort, alloc: Global, rows: &Rows) -> Result<(), Alloc
     };
     drop(reply);
     holds(rt, is_so, "a reply");
-    Ok(())
 }
 
-fn look_at_the_item(rt: &impl Abort, alloc: Global, rows: &Rows) -> Result<(), AllocError> {
-    let title = String::from_str(alloc, "Gems")?;
-    let name = String::from_str(alloc, "gem")?;
+fn look_at_the_item(rt: &impl Abort, alloc: Global, rows: &Rows) {
+    let title = owned(rt, alloc, "Gems");
+    let name = owned(rt, alloc, "gem");
     let item = Item::Regular {
         name,
         current: StoredTitle { number: 2, title },
@@ -105,25 +93,23 @@ fn look_at_the_item(rt: &impl Abort, alloc: Global, rows: &Rows) -> Result<(), A
     };
     drop(item);
     holds(rt, is_so, "an item");
-    Ok(())
 }
 
-fn look_at_all(rt: &impl Abort, alloc: Global, rows: &mut Rows) -> Result<(), Fail> {
-    put_all(alloc, rows, &WHOLE)?;
+fn look_at_all(rt: &impl Abort, alloc: Global, rows: &mut Rows) {
+    put_all(rt, alloc, rows, &WHOLE);
     same(rt, &rows.marks.len(), &1);
     same(rt, &rows.items.len(), &3);
     same(rt, &rows.members.len(), &2);
     same(rt, &rows.kept.len(), &3);
     holds(rt, has_mark_and_member(rows), "a mark and a member");
-    look_at_kept(rt, alloc, rows)?;
-    look_at_the_item(rt, alloc, rows)?;
-    text_is_let_go(rt, alloc, rows)
+    look_at_kept(rt, alloc, rows);
+    look_at_the_item(rt, alloc, rows);
+    text_is_let_go(rt, alloc, rows);
 }
 
 #[test]
-fn rows_written_and_text_let_go(rt: HostRuntime) -> Result<(), Fail> {
+fn rows_written_and_text_let_go(rt: HostRuntime) {
     let mut rows = empty(rt.alloc());
-    let end = look_at_all(&rt, rt.alloc(), &mut rows);
+    look_at_all(&rt, rt.alloc(), &mut rows);
     drop(rows);
-    end
 }

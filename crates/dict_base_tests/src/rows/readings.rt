@@ -1,8 +1,9 @@
 //! What records stand for, taken one by one, as an opening takes them.
 
-use super::records::{EditionRows, Rows};
+use super::records::{EditionRows, Rows, owned};
 use dict_catalogue::Summary;
-use std::alloc::{AllocError, Global};
+use std::alloc::Global;
+use std::process::Abort;
 use store_rows::{Reader, RowsFault};
 use store_tables::EditionRecord;
 
@@ -12,20 +13,26 @@ pub(crate) fn begin(alloc: Global, rows: &Rows) -> Result<Reader, RowsFault> {
 }
 
 fn copied(
+    rt: &impl Abort,
     alloc: Global,
     row: &EditionRecord<String, Vec<u8>>,
-) -> Result<EditionRecord<String, Vec<u8>>, AllocError> {
-    Ok(EditionRecord {
+) -> EditionRecord<String, Vec<u8>> {
+    EditionRecord {
         number: row.number,
-        owner: String::from_str(alloc, row.owner.as_str())?,
-        title: String::from_str(alloc, row.title.as_str())?,
-        info: String::from_str(alloc, row.info.as_str())?,
-        body: Vec::from_slice(alloc, row.body.as_slice())?,
-    })
+        owner: owned(rt, alloc, row.owner.as_str()),
+        title: owned(rt, alloc, row.title.as_str()),
+        info: owned(rt, alloc, row.info.as_str()),
+        body: Vec::from_slice(alloc, row.body.as_slice()).expect(rt, "memory"),
+    }
 }
 
-fn read_edition(alloc: Global, reader: &mut Reader, rows: &EditionRows) -> Result<(), RowsFault> {
-    reader.edition(copied(alloc, &rows.edition.value)?)?;
+fn read_edition(
+    rt: &impl Abort,
+    alloc: Global,
+    reader: &mut Reader,
+    rows: &EditionRows,
+) -> Result<(), RowsFault> {
+    reader.edition(copied(rt, alloc, &rows.edition.value))?;
     for row in &rows.entries {
         reader.entry(alloc, &row.value, row.value.headword.as_str())?;
     }
@@ -40,12 +47,26 @@ pub(crate) fn read_replies(reader: &mut Reader, rows: &Rows) -> Result<(), RowsF
     Ok(())
 }
 
-/// The catalogue for which the records stand, whose ids come once.
-pub(crate) fn summary_of(alloc: Global, rows: &Rows) -> Result<Summary, RowsFault> {
-    let mut reader = begin(alloc, rows)?;
+/// Takes the editions and the kept replies, one by one.
+fn read_rows(
+    rt: &impl Abort,
+    alloc: Global,
+    reader: &mut Reader,
+    rows: &Rows,
+) -> Result<(), RowsFault> {
     for edition in &rows.editions {
-        read_edition(alloc, &mut reader, edition)?;
+        read_edition(rt, alloc, reader, edition)?;
     }
-    read_replies(&mut reader, rows)?;
+    read_replies(reader, rows)
+}
+
+/// The catalogue for which the records stand, whose ids come once.
+pub(crate) fn summary_of(
+    rt: &impl Abort,
+    alloc: Global,
+    rows: &Rows,
+) -> Result<Summary, RowsFault> {
+    let mut reader = begin(alloc, rows)?;
+    read_rows(rt, alloc, &mut reader, rows)?;
     reader.finish()
 }

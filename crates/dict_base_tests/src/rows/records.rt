@@ -3,7 +3,8 @@
 use super::readings::summary_of;
 use crate::checks::push;
 use dict_catalogue::{Item as CatalogueItem, Summary};
-use std::alloc::{AllocError, Global};
+use std::alloc::Global;
+use std::process::Abort;
 use store_rows::RowsFault;
 use store_tables::{EditionRecord, EntryRecord, ItemRecord, KeptRecord, Mark, Member, StoredRow};
 
@@ -117,128 +118,138 @@ pub(crate) struct Rows {
     pub kept: Vec<StoredRow<KeptRecord<String>>>,
 }
 
-pub(crate) fn mark(alloc: Global, row: MarkRow) -> Result<StoredRow<Mark<String>>, AllocError> {
+/// A text of its own.
+pub(crate) fn owned(rt: &impl Abort, alloc: Global, text: &str) -> String {
+    String::from_str(alloc, text).expect(rt, "memory")
+}
+
+pub(crate) fn mark(rt: &impl Abort, alloc: Global, row: MarkRow) -> StoredRow<Mark<String>> {
     let value = Mark {
         id: 1,
-        magic: String::from_str(alloc, row.0)?,
+        magic: owned(rt, alloc, row.0),
         version: row.1,
         installs: row.2,
     };
-    Ok(StoredRow { rowid: 1, value })
+    StoredRow { rowid: 1, value }
 }
 
 pub(crate) fn item(
+    rt: &impl Abort,
     alloc: Global,
     row: ItemRow<'_>,
-) -> Result<StoredRow<ItemRecord<String>>, AllocError> {
+) -> StoredRow<ItemRecord<String>> {
     match row {
         ItemRow::Regular(place, name, current, former) => {
             let value = ItemRecord {
                 place,
-                name: String::from_str(alloc, name)?,
+                name: owned(rt, alloc, name),
                 kind: 0,
                 title: None,
                 current: Some(current),
                 former,
             };
-            Ok(StoredRow {
+            StoredRow {
                 rowid: place,
                 value,
-            })
+            }
         }
         ItemRow::Listed(place, name, kind, title) => {
             let value = ItemRecord {
                 place,
-                name: String::from_str(alloc, name)?,
+                name: owned(rt, alloc, name),
                 kind,
-                title: Some(String::from_str(alloc, title)?),
+                title: Some(owned(rt, alloc, title)),
                 current: None,
                 former: None,
             };
-            Ok(StoredRow {
+            StoredRow {
                 rowid: place,
                 value,
-            })
+            }
         }
     }
 }
 
 pub(crate) fn member(
+    rt: &impl Abort,
     alloc: Global,
     row: MemberRow<'_>,
-) -> Result<StoredRow<Member<String>>, AllocError> {
+) -> StoredRow<Member<String>> {
     let value = Member {
-        owner: String::from_str(alloc, row.0)?,
+        owner: owned(rt, alloc, row.0),
         ord: row.1,
-        name: String::from_str(alloc, row.2)?,
+        name: owned(rt, alloc, row.2),
     };
-    Ok(StoredRow {
+    StoredRow {
         rowid: row.1,
         value,
-    })
+    }
 }
 
 fn entry(
+    rt: &impl Abort,
     alloc: Global,
     edition: i64,
     row: EntryRow,
-) -> Result<StoredRow<EntryRecord<String>>, AllocError> {
+) -> StoredRow<EntryRecord<String>> {
     let value = EntryRecord {
         edition,
         ord: row.0,
-        headword: String::from_str(alloc, row.1)?,
+        headword: owned(rt, alloc, row.1),
         start: row.2,
         length: row.3,
     };
-    Ok(StoredRow {
+    StoredRow {
         rowid: row.0,
         value,
-    })
+    }
 }
 
 fn edition_record(
+    rt: &impl Abort,
     alloc: Global,
     row: EditionRow<'_>,
-) -> Result<StoredRow<EditionRecord<String, Vec<u8>>>, AllocError> {
+) -> StoredRow<EditionRecord<String, Vec<u8>>> {
     let value = EditionRecord {
         number: row.0,
-        owner: String::from_str(alloc, row.1)?,
-        title: String::from_str(alloc, row.2)?,
-        info: String::from_str(alloc, "")?,
-        body: Vec::from_slice(alloc, row.3)?,
+        owner: owned(rt, alloc, row.1),
+        title: owned(rt, alloc, row.2),
+        info: owned(rt, alloc, ""),
+        body: Vec::from_slice(alloc, row.3).expect(rt, "memory"),
     };
-    Ok(StoredRow {
+    StoredRow {
         rowid: row.0,
         value,
-    })
+    }
 }
 
-pub(crate) fn edition(alloc: Global, row: EditionRow<'_>) -> Result<EditionRows, AllocError> {
+pub(crate) fn edition(rt: &impl Abort, alloc: Global, row: EditionRow<'_>) -> EditionRows {
     let mut entries = Vec::new(alloc);
     for one in row.4 {
-        push(&mut entries, entry(alloc, row.0, *one))?;
+        push(rt, &mut entries, entry(rt, alloc, row.0, *one));
     }
-    Ok(EditionRows {
-        edition: edition_record(alloc, row)?,
+    EditionRows {
+        edition: edition_record(rt, alloc, row),
         entries,
-    })
+    }
 }
 
 pub(crate) fn kept(
+    rt: &impl Abort,
     alloc: Global,
     row: KeptRow<'_>,
-) -> Result<StoredRow<KeptRecord<String>>, AllocError> {
+) -> StoredRow<KeptRecord<String>> {
     let value = KeptRecord {
-        id: String::from_str(alloc, row.0)?,
+        id: owned(rt, alloc, row.0),
         number: row.1,
-        verb: String::from_str(alloc, row.2)?,
-        name: String::from_str(alloc, row.3)?,
+        verb: owned(rt, alloc, row.2),
+        name: owned(rt, alloc, row.3),
         edition: row.4,
     };
-    Ok(StoredRow {
+    StoredRow {
         rowid: row.1,
         value,
-    })
+    }
 }
 
 /// No record of any table.
@@ -253,69 +264,66 @@ pub(crate) fn empty(alloc: Global) -> Rows {
 }
 
 /// Puts these records in the place of those of one table.
-pub(crate) fn put(alloc: Global, rows: &mut Rows, change: Change<'_>) -> Result<(), AllocError> {
+pub(crate) fn put(rt: &impl Abort, alloc: Global, rows: &mut Rows, change: Change<'_>) {
     match change {
         Change::Marks(marks) => {
             rows.marks.clear();
             for row in marks {
-                push(&mut rows.marks, mark(alloc, *row))?;
+                push(rt, &mut rows.marks, mark(rt, alloc, *row));
             }
         }
         Change::Items(items) => {
             rows.items.clear();
             for row in items {
-                push(&mut rows.items, item(alloc, *row))?;
+                push(rt, &mut rows.items, item(rt, alloc, *row));
             }
         }
         Change::Members(members) => {
             rows.members.clear();
             for row in members {
-                push(&mut rows.members, member(alloc, *row))?;
+                push(rt, &mut rows.members, member(rt, alloc, *row));
             }
         }
         Change::Editions(editions) => {
             rows.editions.clear();
             for row in editions {
-                push(&mut rows.editions, edition(alloc, *row))?;
+                push(rt, &mut rows.editions, edition(rt, alloc, *row));
             }
         }
         Change::Kept(replies) => {
             rows.kept.clear();
             for row in replies {
-                push(&mut rows.kept, kept(alloc, *row))?;
+                push(rt, &mut rows.kept, kept(rt, alloc, *row));
             }
         }
     }
-    Ok(())
 }
 
 /// Puts these records, in turn.
-pub(crate) fn put_all(
-    alloc: Global,
-    rows: &mut Rows,
-    changes: &[Change<'_>],
-) -> Result<(), AllocError> {
+pub(crate) fn put_all(rt: &impl Abort, alloc: Global, rows: &mut Rows, changes: &[Change<'_>]) {
     for change in changes {
-        put(alloc, rows, *change)?;
+        put(rt, alloc, rows, *change);
     }
-    Ok(())
 }
 
 /// The catalogue for which the records stand after these changes and then these.
 pub(crate) fn summary_after(
+    rt: &impl Abort,
     alloc: Global,
     changes: &[Change<'_>],
     more: &[Change<'_>],
 ) -> Result<Summary, RowsFault> {
     let mut rows = empty(alloc);
-    put_all(alloc, &mut rows, changes)?;
-    put_all(alloc, &mut rows, more)?;
-    summary_of(alloc, &rows)
+    put_all(rt, alloc, &mut rows, changes);
+    put_all(rt, alloc, &mut rows, more);
+    let read = summary_of(rt, alloc, &rows);
+    drop(rows);
+    read
 }
 
 /// Whether the records of the catalogue stand for none with this change.
-pub(crate) fn is_damaged_with(alloc: Global, change: Change<'_>) -> bool {
-    summary_after(alloc, &WHOLE, &[change]).err() == Some(RowsFault::Damaged)
+pub(crate) fn is_damaged_with(rt: &impl Abort, alloc: Global, change: Change<'_>) -> bool {
+    summary_after(rt, alloc, &WHOLE, &[change]).err() == Some(RowsFault::Damaged)
 }
 
 /// Whether an item is there, and has this name and this title.
