@@ -4,7 +4,7 @@ use crate::serving::{FREE, Part, Step, bind, start};
 use net_driver::{AddressFault, BindFault};
 use std::alloc::Global;
 use std::net::SocketAddr;
-use std::test::Fail;
+use std::process::Abort;
 
 fn told_of(fault: &Option<BindFault>) -> &'static str {
     match fault {
@@ -43,11 +43,10 @@ fn is_unread(net: &HostRuntime, alloc: Global, text: &str) -> bool {
 
 // Texts that are no address.
 #[test]
-fn an_address_that_is_not_read(rt: HostRuntime) -> Result<(), Fail> {
+fn an_address_that_is_not_read(rt: HostRuntime) {
     for text in &UNREAD {
-        holds(is_unread(&rt, rt.alloc(), text), "another fault")?;
+        holds(&rt, is_unread(&rt, rt.alloc(), text), "another fault");
     }
-    Ok(())
 }
 
 // Two addresses that were bound have the ports that the system chose.
@@ -58,23 +57,24 @@ fn are_chosen(dict: SocketAddr, http: SocketAddr) -> bool {
 
 /// Two addresses that were bound have the ports that the system chose, and are in use; and the order of two faults.
 pub(crate) fn are_in_use(
+    rt: &impl Abort,
     net: &HostRuntime,
     alloc: Global,
     addresses: (SocketAddr, SocketAddr),
-) -> Result<(), Fail> {
+) {
     let (dict, http) = addresses;
-    let text = format!(in alloc; "{dict}")?;
+    let text = format!(in alloc; "{dict}").expect(rt, "memory");
     let first = told(net, alloc, &text, "none");
-    let text = format!(in alloc; "{http}")?;
+    let text = format!(in alloc; "{http}").expect(rt, "memory");
     let second = told(net, alloc, FREE, &text);
-    holds(first == "dict unbound", "another fault of the first")?;
-    holds(second == "http unbound", "another fault of the second")?;
-    holds(are_chosen(dict, http), "other addresses")
+    holds(rt, first == "dict unbound", "another fault of the first");
+    holds(rt, second == "http unbound", "another fault of the second");
+    holds(rt, are_chosen(dict, http), "other addresses");
 }
 
 static PORTS: [(u32, &[Part]); 1] = [(0, &[Part::Bare(1, &[Step::InUse])])];
 
 #[test]
-fn free_ports(rt: HostRuntime) -> Result<(), Fail> {
-    start(&rt, &PORTS)
+fn free_ports(rt: HostRuntime) {
+    start(&rt, &rt, &PORTS);
 }

@@ -1,11 +1,7 @@
 //! An assertion, as a function of its own, so that the proof of what asserts has one step for it.
-use std::test::Fail;
+use std::process::Abort;
 
 /// It is so. Else this is said.
-pub(crate) fn holds(is_so: bool, else_says: &'static str) -> Result<(), Fail> {
-    if is_so {
-        Ok(())
-    } else {
-        Err(Fail::new(else_says))
-    }
+pub(crate) fn holds(rt: &impl Abort, is_so: bool, else_says: &'static str) {
+    assert!(rt; is_so, "{else_says}");
 }

@@ -3,7 +3,7 @@ use crate::checks::holds;
 use std::alloc::Global;
 use std::io::{ErrorKind, Read, Result as IoResult, Write};
 use std::net::{Shutdown, SocketAddr, TcpStream};
-use std::test::Fail;
+use std::process::Abort;
 
 // A line of an index, of 128 octets: a headword of 123 octets, and the interval of the text of `opal` in `gem`.
 static LINE: &[u8] =
@@ -20,66 +20,56 @@ pub(crate) struct Client {
 }
 
 // A connection that waits for nothing.
-fn connect(net: &HostRuntime, address: SocketAddr) -> IoResult<TcpStream> {
-    let stream = TcpStream::connect(net, address)?;
-    match set_up(&stream) {
-        Ok(()) => Ok(stream),
-        Err(error) => {
-            drop(stream);
-            Err(error)
-        }
-    }
-}
-
-fn set_up(stream: &TcpStream) -> IoResult<()> {
-    stream.set_nonblocking(true)?;
-    stream.set_nodelay(true)
+fn connect(rt: &impl Abort, net: &HostRuntime, address: SocketAddr) -> TcpStream {
+    let stream = TcpStream::connect(net, address).expect(rt, "a connection");
+    stream.set_nonblocking(true).expect(rt, "no wait");
+    stream.set_nodelay(true).expect(rt, "no delay");
+    stream
 }
 
 impl Client {
     pub(crate) fn new(
+        rt: &impl Abort,
         net: &HostRuntime,
         alloc: Global,
         address: SocketAddr,
-    ) -> Result<Client, Fail> {
-        Ok(Client {
-            stream: connect(net, address)?,
+    ) -> Client {
+        Client {
+            stream: connect(rt, net, address),
             alloc,
             got: Vec::new(alloc),
             has_ended: false,
-        })
+        }
     }
 
     /// Sends octets, all of them. Those for a connection that is closed are lost.
-    pub(crate) fn send(&mut self, octets: &[u8]) -> Result<(), Fail> {
-        match self.stream.write(octets) {
-            Ok(count) if count == octets.len() => Ok(()),
-            Err(error) if is_lost(error.kind()) => Ok(()),
-            _ => Err(Fail::new("not all was sent")),
-        }
+    pub(crate) fn send(&mut self, rt: &impl Abort, octets: &[u8]) {
+        let is_sent = match self.stream.write(octets) {
+            Ok(count) => count == octets.len(),
+            Err(error) => is_lost(error.kind()),
+        };
+        holds(rt, is_sent, "not all was sent");
     }
 
     /// Sends 32 lines of an index, 4,096 octets.
-    pub(crate) fn fill_index(&mut self) -> Result<(), Fail> {
+    pub(crate) fn fill_index(&mut self, rt: &impl Abort) {
         for _ in 0..32u32 {
-            self.send(LINE)?;
+            self.send(rt, LINE);
         }
-        Ok(())
     }
 
     /// Asks for the status so often, by octets that are sent at once.
-    pub(crate) fn ask_often(&mut self, count: u32) -> Result<(), Fail> {
+    pub(crate) fn ask_often(&mut self, rt: &impl Abort, count: u32) {
         let mut octets = Vec::new(self.alloc);
         for _ in 0..count {
-            octets.extend_from_slice(b"STATUS\r\n")?;
+            octets.extend_from_slice(b"STATUS\r\n").expect(rt, "memory");
         }
-        self.send(octets.as_slice())
+        self.send(rt, octets.as_slice());
     }
 
     /// Sends nothing more.
-    pub(crate) fn end(&mut self) -> Result<(), Fail> {
-        self.stream.shutdown(Shutdown::Write)?;
-        Ok(())
+    pub(crate) fn end(&mut self, rt: &impl Abort) {
+        self.stream.shutdown(Shutdown::Write).expect(rt, "an end");
     }
 
     // Reads what has come, at most so often. A reset counts as an end.
@@ -104,17 +94,17 @@ impl Client {
     }
 
     /// Reads what has come, and tells how many octets came in all.
-    pub(crate) fn read(&mut self) -> Result<usize, Fail> {
-        self.read_on()?;
-        Ok(self.got.len())
+    pub(crate) fn read(&mut self, rt: &impl Abort) -> usize {
+        self.read_on().expect(rt, "octets");
+        self.got.len()
     }
 
     /// These octets alone have come since the last such call.
-    pub(crate) fn got(&mut self, want: &[u8]) -> Result<(), Fail> {
-        self.read_on()?;
+    pub(crate) fn got(&mut self, rt: &impl Abort, want: &[u8]) {
+        self.read_on().expect(rt, "octets");
         let is_so = self.got.as_slice() == want;
         self.got.clear();
-        holds(is_so, "other octets came")
+        holds(rt, is_so, "other octets came");
     }
 }
 

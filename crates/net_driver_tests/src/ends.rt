@@ -1,7 +1,7 @@
 // Peers that don't read, and peers that end their side early.
 use crate::checks::holds;
 use crate::serving::{FILLER, Part, Play, Step, start};
-use std::test::Fail;
+use std::process::Abort;
 
 const FIRST: &[u8] = b"220 localhost dictcat ready <1@localhost>\r\n";
 
@@ -22,52 +22,47 @@ pub(crate) enum Drowning {
 }
 
 // A client asks so often, or until fewer than so many connections are open. How often it asked.
-fn ask(play: &mut Play, who: usize, most: usize, open: usize) -> Result<usize, Fail> {
+fn ask(rt: &impl Abort, play: &mut Play, who: usize, most: usize, open: usize) -> usize {
     for asked in 0..most {
         if play.driver.event_loop.open_count() < open {
-            return Ok(asked);
+            return asked;
         }
-        play.client(who)?.send(ASK)?;
-        play.settle()?;
+        play.client(rt, who).send(rt, ASK);
+        play.settle(rt);
     }
-    Ok(most)
+    most
 }
 
 // Client 2 reads to the end. How many octets came.
-fn read_to_the_end(play: &mut Play) -> Result<usize, Fail> {
+fn read_to_the_end(rt: &impl Abort, play: &mut Play) -> usize {
     for _ in 0..10_000u32 {
-        let came = play.client(2)?.read()?;
-        if play.client(2)?.has_ended {
-            return Ok(came);
+        let came = play.client(rt, 2).read(rt);
+        if play.client(rt, 2).has_ended {
+            return came;
         }
-        play.settle()?;
+        play.settle(rt);
     }
-    Err(Fail::new("no end came"))
+    panic!(rt; "no end came")
 }
 
-fn is_lost(play: &mut Play) -> Result<(), Fail> {
-    play.asked = ask(play, 1, 10_000, 2)?;
-    holds(play.asked < 10_000, "it isn't lost")
+fn is_lost(rt: &impl Abort, play: &mut Play) {
+    play.asked = ask(rt, play, 1, 10_000, 2);
+    holds(rt, play.asked < 10_000, "it isn't lost");
 }
 
-fn is_whole(play: &mut Play) -> Result<(), Fail> {
-    let came = read_to_the_end(play)?;
-    holds(came > 1_048_576, "no more than 1 MiB")?;
-    holds(
-        came == play.asked.saturating_mul(ANSWER),
-        "not every answer",
-    )
+fn is_whole(rt: &impl Abort, play: &mut Play) {
+    let came = read_to_the_end(rt, play);
+    holds(rt, came > 1_048_576, "no more than 1 MiB");
+    let want = play.asked.saturating_mul(ANSWER);
+    holds(rt, came == want, "not every answer");
 }
 
 /// It is done.
-pub(crate) fn drown(play: &mut Play, drowning: Drowning) -> Result<(), Fail> {
+pub(crate) fn drown(rt: &impl Abort, play: &mut Play, drowning: Drowning) {
     match drowning {
-        Drowning::Unread => is_lost(play),
-        Drowning::Less => {
-            play.asked = ask(play, 2, play.asked.saturating_sub(16), 0)?;
-            Ok(())
-        }
-        Drowning::Whole => is_whole(play),
+        Drowning::Unread => is_lost(rt, play),
+        Drowning::Less => play.asked = ask(rt, play, 2, play.asked.saturating_sub(16), 0),
+        Drowning::Whole => is_whole(rt, play),
     }
 }
 
@@ -93,8 +88,8 @@ const NEVER_READS: &[Step] = &[
 static NEVER: [(u32, &[Part]); 1] = [(0, &[Part::Settled(1, NEVER_READS)])];
 
 #[test]
-fn a_peer_that_never_reads(rt: HostRuntime) -> Result<(), Fail> {
-    start(&rt, &NEVER)
+fn a_peer_that_never_reads(rt: HostRuntime) {
+    start(&rt, &rt, &NEVER);
 }
 
 // A client that ends its side behind its last line gets the answer.
@@ -130,6 +125,6 @@ static ENDS: [(u32, &[Part]); 2] = [
 ];
 
 #[test]
-fn octets_and_an_end(rt: HostRuntime) -> Result<(), Fail> {
-    start(&rt, &ENDS)
+fn octets_and_an_end(rt: HostRuntime) {
+    start(&rt, &rt, &ENDS);
 }

@@ -5,7 +5,6 @@ use crate::turns::{READER, Step, Talk, make_turns};
 use dict_fixtures::HEAD;
 use net_connection::Stage;
 use net_hub::Kind;
-use std::test::Fail;
 
 const FILLER: &[u8] = &[b'x'; 4_096];
 
@@ -172,6 +171,6 @@ static HELD_BACK: [Talk; 9] = [
 ];
 
 #[test]
-fn turns_in_which_it_is_held_back(rt: HostRuntime) -> Result<(), Fail> {
-    make_turns(rt.alloc(), &HELD_BACK)
+fn turns_in_which_it_is_held_back(rt: HostRuntime) {
+    make_turns(&rt, rt.alloc(), &HELD_BACK);
 }

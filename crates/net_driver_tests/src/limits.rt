@@ -1,6 +1,5 @@
 // As many connections as there may be, and more.
 use crate::serving::{Part, Step, start};
-use std::test::Fail;
 
 // 64 are open at once, and the next is closed at once. After one has left, there is a place again, and its id wasn't given.
 const THE_SIXTY_FIFTH: &[Part] = &[
@@ -37,6 +36,6 @@ const GONE: &[Part] = &[
 static LIMITS: [(u32, &[Part]); 3] = [(0, THE_SIXTY_FIFTH), (0, ANSWERED), (0, GONE)];
 
 #[test]
-fn as_many_as_there_may_be(rt: HostRuntime) -> Result<(), Fail> {
-    start(&rt, &LIMITS)
+fn as_many_as_there_may_be(rt: HostRuntime) {
+    start(&rt, &rt, &LIMITS);
 }

@@ -2,7 +2,6 @@
 use crate::peer::{Behind, SILENT, Script};
 use crate::turns::{READER, Step, Talk, make_turns};
 use net_connection::Stage;
-use std::test::Fail;
 
 // A peer that ends its side behind what it sends, takes 1,000 octets, and then is gone.
 const ENDING: Script = Script {
@@ -135,6 +134,6 @@ static BY_LINES: [Talk; 6] = [
 ];
 
 #[test]
-fn line_by_line(rt: HostRuntime) -> Result<(), Fail> {
-    make_turns(rt.alloc(), &BY_LINES)
+fn line_by_line(rt: HostRuntime) {
+    make_turns(&rt, rt.alloc(), &BY_LINES);
 }

@@ -3,7 +3,6 @@ use crate::peer::{SILENT, Script};
 use crate::turns::{READER, Step, Talk, make_turns};
 use net_connection::Stage;
 use net_outlet::MAX_WAITING;
-use std::test::Fail;
 
 // How many octets the peer is due: a greeting, the answer to STATUS, and that to DEFINE.
 const GREETING: usize = 43;
@@ -169,6 +168,6 @@ static ANSWERS: [Talk; 8] = [
 ];
 
 #[test]
-fn long_answers(rt: HostRuntime) -> Result<(), Fail> {
-    make_turns(rt.alloc(), &ANSWERS)
+fn long_answers(rt: HostRuntime) {
+    make_turns(&rt, rt.alloc(), &ANSWERS);
 }

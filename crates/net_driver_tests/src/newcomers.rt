@@ -1,20 +1,21 @@
 // Many that wait at the listening sockets as a round begins, and one reader's many commands beside another's one.
 use crate::serving::{Part, Play, Step, start};
-use std::test::Fail;
+use std::process::Abort;
 
 // A reader is greeted by the id of its place.
-fn is_greeted(play: &mut Play, place: usize) -> Result<(), Fail> {
+fn is_greeted(rt: &impl Abort, play: &mut Play, place: usize) {
     let id = place.saturating_add(1);
-    let greeting = format!(in play.alloc; "220 localhost dictcat ready <{id}@localhost>\r\n")?;
-    play.client(place)?.got(greeting.as_bytes())
+    let greeting = format!(in play.alloc;
+        "220 localhost dictcat ready <{id}@localhost>\r\n"
+    ).expect(rt, "memory");
+    play.client(rt, place).got(rt, greeting.as_bytes());
 }
 
 /// Each reader from this place up to that one is greeted by the id of its place.
-pub(crate) fn are_greeted(play: &mut Play, from: usize, to: usize) -> Result<(), Fail> {
+pub(crate) fn are_greeted(rt: &impl Abort, play: &mut Play, from: usize, to: usize) {
     for place in from..to {
-        is_greeted(play, place)?;
+        is_greeted(rt, play, place);
     }
-    Ok(())
 }
 
 // Of 20 readers 16 are taken in one round and 4 in the next, in the order in which they came.
@@ -53,8 +54,8 @@ const OF_BOTH: &[Part] = &[
 static NEWCOMERS: [(u32, &[Part]); 2] = [(0, TWENTY), (0, OF_BOTH)];
 
 #[test]
-fn newcomers_in_order(rt: HostRuntime) -> Result<(), Fail> {
-    start(&rt, &NEWCOMERS)
+fn newcomers_in_order(rt: HostRuntime) {
+    start(&rt, &rt, &NEWCOMERS);
 }
 
 const TWO_READERS: &[Step] = &[
@@ -81,6 +82,6 @@ static FAIR: [(u32, &[Part]); 1] = [(
 )];
 
 #[test]
-fn many_commands_at_once(rt: HostRuntime) -> Result<(), Fail> {
-    start(&rt, &FAIR)
+fn many_commands_at_once(rt: HostRuntime) {
+    start(&rt, &rt, &FAIR);
 }

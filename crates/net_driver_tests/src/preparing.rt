@@ -1,7 +1,7 @@
 // An install that is prepared between rounds: the octets that complete it are held back meanwhile, and commands of others.
 use crate::serving::{FILLER, Part, Play, Step, start};
 use dict_fixtures::{HEAD, PartsDesk};
-use std::test::Fail;
+use std::process::Abort;
 
 /// How far a desk has come with an install.
 #[derive(Clone, Copy)]
@@ -30,14 +30,14 @@ pub(crate) fn is_at(desk: &PartsDesk, progress: Progress) -> bool {
 }
 
 /// Rounds until it has.
-pub(crate) fn round_until(play: &mut Play, progress: Progress) -> Result<(), Fail> {
+pub(crate) fn round_until(rt: &impl Abort, play: &mut Play, progress: Progress) {
     for _ in 0..100u32 {
         if is_at(&play.desk, progress) {
-            return Ok(());
+            return;
         }
-        play.round()?;
+        play.round(rt);
     }
-    Err(Fail::new("the desk comes no further"))
+    panic!(rt; "the desk comes no further");
 }
 
 const STATUS: &[u8] = b"STATUS\r\n";
@@ -247,6 +247,6 @@ static PREPARED: [(u32, &[Part]); 5] = [
 ];
 
 #[test]
-fn others_while_an_install_is_prepared(rt: HostRuntime) -> Result<(), Fail> {
-    start(&rt, &PREPARED)
+fn others_while_an_install_is_prepared(rt: HostRuntime) {
+    start(&rt, &rt, &PREPARED);
 }

@@ -9,7 +9,7 @@ use dict_fixtures::{PartsDesk, install_short};
 use net_driver::{BindFault, Driver, RoundsEnd, System, pace, serve};
 use std::alloc::Global;
 use std::net::SocketAddr;
-use std::test::Fail;
+use std::process::Abort;
 use std::time::Duration;
 
 /// A free port of loopback.
@@ -79,18 +79,16 @@ pub(crate) enum Part {
 }
 
 /// These parts, of each row with a new driver over a desk that prepares a command by so many parts, and new clients.
-pub(crate) fn start(rt: &HostRuntime, rows: &[(u32, &'static [Part])]) -> Result<(), Fail> {
+pub(crate) fn start(rt: &impl Abort, net: &HostRuntime, rows: &[(u32, &'static [Part])]) {
     for (each, parts) in rows {
-        start_one(rt, *each, *parts)?;
+        start_one(rt, net, *each, *parts);
     }
-    Ok(())
 }
 
-fn start_one(rt: &HostRuntime, each: u32, parts: &[Part]) -> Result<(), Fail> {
-    let mut play = Play::new(rt, rt.alloc(), each)?;
-    let end = play.run_parts(rt, parts);
+fn start_one(rt: &impl Abort, net: &HostRuntime, each: u32, parts: &[Part]) {
+    let mut play = Play::new(rt, net, net.alloc(), each);
+    play.run_parts(rt, net, parts);
     drop(play);
-    end
 }
 
 /// A driver that is bound to these addresses.
@@ -116,159 +114,158 @@ pub(crate) struct Play {
 
 impl Play {
     // Over an empty catalogue.
-    fn new(net: &HostRuntime, alloc: Global, each: u32) -> Result<Play, Fail> {
-        Ok(Play {
+    fn new(rt: &impl Abort, net: &HostRuntime, alloc: Global, each: u32) -> Play {
+        Play {
             alloc,
-            driver: bind(net, alloc, FREE, FREE)?,
+            driver: bind(net, alloc, FREE, FREE).expect(rt, "a driver"),
             desk: PartsDesk::new(alloc, each),
             clients: Vec::new(alloc),
             asked: 0,
-        })
+        }
     }
 
     /// One round. Whether something happened.
-    pub(crate) fn round(&mut self) -> Result<bool, Fail> {
-        Ok(self.driver.event_loop.round(&mut self.desk)?)
+    pub(crate) fn round(&mut self, rt: &impl Abort) -> bool {
+        self.driver
+            .event_loop
+            .round(&mut self.desk)
+            .expect(rt, "a round")
     }
 
     // One in which something happens.
-    fn round_busy(&mut self) -> Result<(), Fail> {
-        holds(self.round()?, "nothing happened")
+    fn round_busy(&mut self, rt: &impl Abort) {
+        holds(rt, self.round(rt), "nothing happened");
     }
 
     /// Rounds until nothing happens.
-    pub(crate) fn settle(&mut self) -> Result<(), Fail> {
+    pub(crate) fn settle(&mut self, rt: &impl Abort) {
         for _ in 0..100_000u32 {
-            if !self.round()? {
-                return Ok(());
+            if !self.round(rt) {
+                return;
             }
         }
-        Err(Fail::new("no end of rounds"))
+        panic!(rt; "no end of rounds");
     }
 
     // So many rounds, which are counted.
-    fn serve(&mut self, rounds: u64, wait: Duration) -> Result<(), Fail> {
+    fn serve(&mut self, rt: &impl Abort, rounds: u64, wait: Duration) {
         let event_loop = &mut self.driver.event_loop;
         let before = event_loop.rounds();
-        let end = serve(event_loop, &mut self.desk, rounds, wait)?;
+        let end = serve(event_loop, &mut self.desk, rounds, wait).expect(rt, "rounds");
         let made = event_loop.rounds().saturating_sub(before);
-        holds(end == RoundsEnd::Whole && made == rounds, "other rounds")
+        holds(
+            rt,
+            end == RoundsEnd::Whole && made == rounds,
+            "other rounds",
+        );
     }
 
     // As many as are asked for.
-    fn serve_paced(&mut self, count: u32) -> Result<(), Fail> {
+    fn serve_paced(&mut self, rt: &impl Abort, count: u32) {
         let (rounds, wait) = pace(Some(count));
-        self.serve(rounds, wait)
+        self.serve(rt, rounds, wait);
     }
 
-    fn wait(&mut self, most: u64) -> Result<(), Fail> {
-        self.driver.event_loop.wait(Duration::from_millis(most))?;
-        Ok(())
+    fn wait(&mut self, rt: &impl Abort, most: u64) {
+        self.driver
+            .event_loop
+            .wait(Duration::from_millis(most))
+            .expect(rt, "a wait");
     }
 
-    fn run_parts(&mut self, net: &HostRuntime, parts: &[Part]) -> Result<(), Fail> {
+    fn run_parts(&mut self, rt: &impl Abort, net: &HostRuntime, parts: &[Part]) {
         for part in parts {
             match part {
-                Part::Settled(times, steps) => self.run_often(net, *times, true, *steps)?,
-                Part::Bare(times, steps) => self.run_often(net, *times, false, *steps)?,
+                Part::Settled(times, steps) => self.run_often(rt, net, *times, true, *steps),
+                Part::Bare(times, steps) => self.run_often(rt, net, *times, false, *steps),
             }
         }
-        Ok(())
     }
 
     fn run_often(
         &mut self,
+        rt: &impl Abort,
         net: &HostRuntime,
         times: u32,
         is_settled: bool,
         steps: &[Step],
-    ) -> Result<(), Fail> {
+    ) {
         for _ in 0..times {
-            self.run(net, is_settled, steps)?;
+            self.run(rt, net, is_settled, steps);
         }
-        Ok(())
     }
 
     // These steps, one after the other.
-    fn run(&mut self, net: &HostRuntime, is_settled: bool, steps: &[Step]) -> Result<(), Fail> {
+    fn run(&mut self, rt: &impl Abort, net: &HostRuntime, is_settled: bool, steps: &[Step]) {
         for step in steps {
-            self.step(net, *step)?;
+            self.step(rt, net, *step);
             if is_settled {
-                self.settle()?;
+                self.settle(rt);
             }
         }
-        Ok(())
     }
 
     // One step of the network's or of the driver's.
-    fn step(&mut self, net: &HostRuntime, step: Step) -> Result<(), Fail> {
+    fn step(&mut self, rt: &impl Abort, net: &HostRuntime, step: Step) {
         let (dict, http) = self.driver.addresses();
         match step {
-            Step::Reader => self.come(net, dict),
-            Step::Editor => self.come(net, http),
-            Step::InUse => are_in_use(net, self.alloc, (dict, http)),
-            Step::Round => self.round_busy(),
-            Step::Settle => self.settle(),
-            Step::Wait(most) => self.wait(most),
-            Step::Serve(count) => self.serve(count, Duration::ZERO),
-            Step::Paced(count) => self.serve_paced(count),
-            Step::Until(progress) => round_until(self, progress),
-            Step::IsAt(progress) => holds(is_at(&self.desk, progress), "the desk is elsewhere"),
-            Step::Drown(drowning) => drown(self, drowning),
-            Step::Greeted(from, to) => are_greeted(self, from, to),
-            Step::Held(open, departing) => self.held(open, departing),
-            _ => self.act(step),
+            Step::Reader => self.come(rt, net, dict),
+            Step::Editor => self.come(rt, net, http),
+            Step::InUse => are_in_use(rt, net, self.alloc, (dict, http)),
+            Step::Round => self.round_busy(rt),
+            Step::Settle => self.settle(rt),
+            Step::Wait(most) => self.wait(rt, most),
+            Step::Serve(count) => self.serve(rt, count, Duration::ZERO),
+            Step::Paced(count) => self.serve_paced(rt, count),
+            Step::Until(progress) => round_until(rt, self, progress),
+            Step::IsAt(progress) => holds(rt, is_at(&self.desk, progress), "the desk is elsewhere"),
+            Step::Drown(drowning) => drown(rt, self, drowning),
+            Step::Greeted(from, to) => are_greeted(rt, self, from, to),
+            Step::Held(open, departing) => self.held(rt, open, departing),
+            _ => self.act(rt, step),
         }
     }
 
     // One step of a client's, or of the desk's.
-    fn act(&mut self, step: Step) -> Result<(), Fail> {
+    fn act(&mut self, rt: &impl Abort, step: Step) {
         match step {
-            Step::Send(who, octets) => self.client(who)?.send(octets),
-            Step::LastSends(octets) => self.last()?.send(octets),
-            Step::FillIndex(who) => self.client(who)?.fill_index(),
-            Step::AskOften(who, count) => self.client(who)?.ask_often(count),
-            Step::End(who) => self.client(who)?.end(),
-            Step::Got(who, octets) => self.client(who)?.got(octets),
-            Step::GotCount(who, count) => holds(self.client(who)?.read()? == count, "others came"),
-            Step::GotSome(who) => holds(self.client(who)?.read()? > 0, "no octet came"),
-            Step::HasEnded(who) => holds(self.client(who)?.has_ended, "no end came"),
-            Step::Leave => {
-                drop(self.clients.pop());
-                Ok(())
+            Step::Send(who, octets) => self.client(rt, who).send(rt, octets),
+            Step::LastSends(octets) => self.last(rt).send(rt, octets),
+            Step::FillIndex(who) => self.client(rt, who).fill_index(rt),
+            Step::AskOften(who, count) => self.client(rt, who).ask_often(rt, count),
+            Step::End(who) => self.client(rt, who).end(rt),
+            Step::Got(who, octets) => self.client(rt, who).got(rt, octets),
+            Step::GotCount(who, count) => {
+                holds(rt, self.client(rt, who).read(rt) == count, "others came");
             }
-            Step::ShortText => Ok(install_short(self.alloc, &mut self.desk)?),
-            _ => Err(Fail::new("no such step")),
+            Step::GotSome(who) => holds(rt, self.client(rt, who).read(rt) > 0, "no octet came"),
+            Step::HasEnded(who) => holds(rt, self.client(rt, who).has_ended, "no end came"),
+            Step::Leave => drop(self.clients.pop()),
+            Step::ShortText => install_short(self.alloc, &mut self.desk).expect(rt, "an edition"),
+            _ => panic!(rt; "no such step"),
         }
     }
 
     // A client comes to this address.
-    fn come(&mut self, net: &HostRuntime, address: SocketAddr) -> Result<(), Fail> {
-        let client = Client::new(net, self.alloc, address)?;
-        self.clients.push(client)?;
-        Ok(())
+    fn come(&mut self, rt: &impl Abort, net: &HostRuntime, address: SocketAddr) {
+        let client = Client::new(rt, net, self.alloc, address);
+        self.clients.push(client).expect(rt, "memory");
     }
 
     /// A client.
-    pub(crate) fn client(&mut self, who: usize) -> Result<&mut Client, Fail> {
-        match self.clients.get_mut(who) {
-            Some(client) => Ok(client),
-            None => Err(Fail::new("there is no such client")),
-        }
+    pub(crate) fn client<'a>(&'a mut self, rt: &impl Abort, who: usize) -> &'a mut Client {
+        self.clients.get_mut(who).expect(rt, "a client")
     }
 
     // The client that came last.
-    fn last(&mut self) -> Result<&mut Client, Fail> {
-        match self.clients.last_mut() {
-            Some(client) => Ok(client),
-            None => Err(Fail::new("there is no client")),
-        }
+    fn last<'a>(&'a mut self, rt: &impl Abort) -> &'a mut Client {
+        self.clients.last_mut().expect(rt, "a client")
     }
 
     /// So many connections are open, and so many are held that are no longer open.
-    fn held(&self, open: usize, departing: usize) -> Result<(), Fail> {
+    fn held(&self, rt: &impl Abort, open: usize, departing: usize) {
         let event_loop = &self.driver.event_loop;
         let is_so = event_loop.open_count() == open && event_loop.departing_count() == departing;
-        holds(is_so, "other connections are held")
+        holds(rt, is_so, "other connections are held");
     }
 }

@@ -1,6 +1,5 @@
 // Readers and editors at one driver.
 use crate::serving::{FILLER, Part, Step, start};
-use std::test::Fail;
 
 const FIRST: &[u8] = b"220 localhost dictcat ready <1@localhost>\r\n";
 
@@ -61,8 +60,8 @@ static BESIDE_A_SESSION: [(u32, &[Part]); 2] = [
 ];
 
 #[test]
-fn an_install_and_a_session(rt: HostRuntime) -> Result<(), Fail> {
-    start(&rt, &BESIDE_A_SESSION)
+fn an_install_and_a_session(rt: HostRuntime) {
+    start(&rt, &rt, &BESIDE_A_SESSION);
 }
 
 const ASK: Step = Step::Send(1, b"STATUS\r\n");
@@ -107,8 +106,8 @@ const AN_OCTET_A_ROUND: &[Step] = &[
 static OCTET_BY_OCTET: [(u32, &[Part]); 1] = [(0, &[Part::Settled(1, AN_OCTET_A_ROUND)])];
 
 #[test]
-fn an_octet_a_round(rt: HostRuntime) -> Result<(), Fail> {
-    start(&rt, &OCTET_BY_OCTET)
+fn an_octet_a_round(rt: HostRuntime) {
+    start(&rt, &rt, &OCTET_BY_OCTET);
 }
 
 // An edition of 6,283,370 octets, of an index of 16,356 lines and a text of almost 4 MiB, comes in pieces of 4,096, and a
@@ -157,8 +156,8 @@ const PIECE_BY_PIECE: &[Part] = &[
 static IN_PIECES: [(u32, &[Part]); 1] = [(0, PIECE_BY_PIECE)];
 
 #[test]
-fn an_install_in_pieces(rt: HostRuntime) -> Result<(), Fail> {
-    start(&rt, &IN_PIECES)
+fn an_install_in_pieces(rt: HostRuntime) {
+    start(&rt, &rt, &IN_PIECES);
 }
 
 // Where nothing comes, nothing happens in a round, and a wait ends.
@@ -193,6 +192,6 @@ const THREE_ROUNDS: &[Part] = &[Part::Settled(1, COMES), Part::Bare(1, THREE)];
 static ROUNDS: [(u32, &[Part]); 2] = [(0, WAITS), (0, THREE_ROUNDS)];
 
 #[test]
-fn rounds_and_waits(rt: HostRuntime) -> Result<(), Fail> {
-    start(&rt, &ROUNDS)
+fn rounds_and_waits(rt: HostRuntime) {
+    start(&rt, &rt, &ROUNDS);
 }

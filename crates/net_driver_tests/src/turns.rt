@@ -7,7 +7,7 @@ use dict_fixtures::{PartsDesk, install_long};
 use net_connection::{Connection, PIECE, Stage};
 use net_hub::{Hub, Kind};
 use std::alloc::Global;
-use std::test::Fail;
+use std::process::Abort;
 
 /// A connection to a peer over a desk, and its steps.
 #[derive(Clone, Copy)]
@@ -171,46 +171,41 @@ fn make_all(
 }
 
 fn open(
+    rt: &impl Abort,
     alloc: Global,
     rooms: &Crowd,
     hub: &mut Hub,
     desk: &mut PartsDesk,
     talk: Talk,
-) -> Result<(), Fail> {
+) {
     let peer = Peer::new(alloc, talk.script);
-    match Connection::open(rooms, alloc, 7, talk.kind, peer, hub, desk) {
-        Some(mut one) => {
-            let is_made = make_all(rooms, hub, desk, &mut one, talk.steps);
-            drop(one);
-            holds(is_made, talk.name)
-        }
-        None => Err(Fail::new("refused")),
-    }
+    let one = Connection::open(rooms, alloc, 7, talk.kind, peer, hub, desk);
+    let mut one = one.expect(rt, "a connection");
+    let is_made = make_all(rooms, hub, desk, &mut one, talk.steps);
+    drop(one);
+    holds(rt, is_made, talk.name);
 }
 
-fn open_over(alloc: Global, desk: &mut PartsDesk, talk: Talk) -> Result<(), Fail> {
+fn open_over(rt: &impl Abort, alloc: Global, desk: &mut PartsDesk, talk: Talk) {
     if talk.has_text {
-        install_long(alloc, desk)?;
+        install_long(alloc, desk).expect(rt, "an edition");
     }
-    let mut hub = Hub::new(alloc, "localhost")?;
+    let mut hub = Hub::new(alloc, "localhost").expect(rt, "memory");
     let rooms = Crowd::empty(alloc);
-    let end = open(alloc, &rooms, &mut hub, desk, talk);
+    open(rt, alloc, &rooms, &mut hub, desk, talk);
     drop(rooms);
     drop(hub);
-    end
 }
 
-fn open_anew(alloc: Global, talk: Talk) -> Result<(), Fail> {
+fn open_anew(rt: &impl Abort, alloc: Global, talk: Talk) {
     let mut desk = PartsDesk::new(alloc, talk.parts);
-    let end = open_over(alloc, &mut desk, talk);
+    open_over(rt, alloc, &mut desk, talk);
     drop(desk);
-    end
 }
 
 /// Each connection by itself makes its steps.
-pub(crate) fn make_turns(alloc: Global, talks: &[Talk]) -> Result<(), Fail> {
+pub(crate) fn make_turns(rt: &impl Abort, alloc: Global, talks: &[Talk]) {
     for talk in talks {
-        open_anew(alloc, *talk)?;
+        open_anew(rt, alloc, *talk);
     }
-    Ok(())
 }

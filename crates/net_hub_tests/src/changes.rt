@@ -2,7 +2,6 @@
 use super::files::{DELETE, DELETED_TOLD, Row};
 use super::runs::{Run, over_memory};
 use net_hub::{Event, Kind};
-use std::test::Fail;
 
 static ROWS: [Row; 5] = [
     (
@@ -22,6 +21,6 @@ static ROWS: [Row; 5] = [
 ];
 
 #[test]
-fn an_edition_goes_between_two_lines(rt: HostRuntime) -> Result<(), Fail> {
-    over_memory(&rt, rt.alloc(), true, Run::Rows(&ROWS))
+fn an_edition_goes_between_two_lines(rt: HostRuntime) {
+    over_memory(&rt, rt.alloc(), true, Run::Rows(&ROWS));
 }

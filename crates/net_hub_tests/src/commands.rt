@@ -4,7 +4,7 @@ use crate::checks::same_text;
 use dict_desk::PlainDesk;
 use net_hub::{Event, Hub, Kind};
 use std::alloc::Global;
-use std::test::Fail;
+use std::process::Abort;
 
 const LIST: &[u8] = b"GET /databases HTTP/1.1\r\n\r\n";
 
@@ -34,12 +34,13 @@ static CASES: [(&[u8], usize, &str); 12] = [
 
 // Whether each piece of so many octets does, before it comes.
 fn asked(
+    rt: &impl Abort,
     alloc: Global,
     hub: &mut Hub,
     desk: &mut PlainDesk,
     octets: &[u8],
     size: usize,
-) -> Result<String, Fail> {
+) -> String {
     let mut words = String::new(alloc);
     for piece in octets.chunks(size.min(4_096).max(1)) {
         let word = if hub.asks_change(1, piece) {
@@ -47,44 +48,41 @@ fn asked(
         } else {
             "false "
         };
-        words.push_str(word)?;
-        told(alloc, hub, desk, Event::Bytes(1, piece))?;
+        words.push_str(word).expect(rt, "memory");
+        told(rt, alloc, hub, desk, Event::Bytes(1, piece));
     }
-    Ok(words)
+    words
 }
 
-fn asked_anew(alloc: Global, octets: &[u8], size: usize) -> Result<String, Fail> {
-    let mut desk = gem_desk(alloc)?;
-    let mut hub = Hub::new(alloc, HOST)?;
-    told(alloc, &mut hub, &mut desk, Event::Opened(1, Kind::Http))?;
-    asked(alloc, &mut hub, &mut desk, octets, size)
+fn asked_anew(rt: &impl Abort, alloc: Global, octets: &[u8], size: usize) -> String {
+    let mut desk = gem_desk(rt, alloc);
+    let mut hub = Hub::new(alloc, HOST).expect(rt, "memory");
+    told(rt, alloc, &mut hub, &mut desk, Event::Opened(1, Kind::Http));
+    asked(rt, alloc, &mut hub, &mut desk, octets, size)
 }
 
 #[test]
-fn commands_are_told(rt: HostRuntime) -> Result<(), Fail> {
+fn commands_are_told(rt: HostRuntime) {
     for (octets, size, wanted) in &CASES {
-        let words = asked_anew(rt.alloc(), *octets, *size)?;
+        let words = asked_anew(&rt, rt.alloc(), *octets, *size);
         same_text(&rt, words.as_str(), *wanted);
     }
-    Ok(())
 }
 
 // Those of a reader don't, nor those of no connection.
 #[test]
-fn other_octets_are_no_command(rt: HostRuntime) -> Result<(), Fail> {
-    let mut desk = gem_desk(rt.alloc())?;
-    let mut hub = Hub::new(rt.alloc(), HOST)?;
+fn other_octets_are_no_command(rt: HostRuntime) {
+    let mut desk = gem_desk(&rt, rt.alloc());
+    let mut hub = Hub::new(rt.alloc(), HOST).expect(&rt, "memory");
     told(
+        &rt,
         rt.alloc(),
         &mut hub,
         &mut desk,
         Event::Opened(1, Kind::Dict),
-    )?;
-    let words = asked(rt.alloc(), &mut hub, &mut desk, DELETE, 4_096)?;
-    same_text(&rt, words.as_str(), "false ");
-    let words = asked(rt.alloc(), &mut hub, &mut desk, b"QUIT\r\n", 4_096)?;
-    same_text(&rt, words.as_str(), "false ");
-    let words = asked(rt.alloc(), &mut hub, &mut desk, DELETE, 4_096)?;
-    same_text(&rt, words.as_str(), "false ");
-    Ok(())
+    );
+    for octets in [DELETE, b"QUIT\r\n", DELETE] {
+        let words = asked(&rt, rt.alloc(), &mut hub, &mut desk, octets, 4_096);
+        same_text(&rt, words.as_str(), "false ");
+    }
 }

@@ -8,7 +8,6 @@ use dict_proto::LimitedSink;
 use net_hub::{Event, Hub, Kind};
 use std::alloc::Global;
 use std::process::Abort;
-use std::test::Fail;
 
 const FOUND: &str =
     "150 1 definitions retrieved\r\n151 \"opal\" gem \"Gems\"\r\nopal\r\n  a stone\r\n.\r\n250 ok\r\n";
@@ -53,24 +52,23 @@ pub(crate) fn meet_no_memory<K: Preparer>(
     hub: &mut Hub,
     desk: &mut K,
     wanted: (&'static str, &'static str, &'static str),
-) -> Result<(), Fail> {
-    play(rt, alloc, hub, desk, &A_READER_AND_TWO_EDITORS)?;
+) {
+    play(rt, alloc, hub, desk, &A_READER_AND_TWO_EDITORS);
     let rows = [
         (Event::Bytes(1, b"DEFINE gem opal\r\n"), wanted.0),
         (Event::Bytes(2, DELETE), wanted.1),
         (Event::Bytes(3, DELETE), wanted.2),
     ];
-    play(rt, alloc, hub, desk, &rows)
+    play(rt, alloc, hub, desk, &rows);
 }
 
 // For memory: one answer is lost, and what comes after it is answered as ever.
 #[test]
-fn a_call_finds_no_memory(rt: HostRuntime) -> Result<(), Fail> {
+fn a_call_finds_no_memory(rt: HostRuntime) {
     for (calls, reader, editor, other) in &ROWS {
         let run = Run::NoMemory(*reader, *editor, *other);
-        over_failing(&rt, rt.alloc(), *calls, false, run)?;
+        over_failing(&rt, rt.alloc(), *calls, false, run);
     }
-    Ok(())
 }
 
 // All that wants the desk after a reader's line is answered 420 or 503, and other lines as ever.
@@ -100,30 +98,36 @@ pub(crate) fn meet_no_store<K: Preparer>(
     alloc: Global,
     hub: &mut Hub,
     desk: &mut K,
-) -> Result<(), Fail> {
-    play(rt, alloc, hub, desk, &TWO_READERS_AND_AN_EDITOR)?;
-    told(alloc, hub, desk, Event::Bytes(1, b"DEFINE gem opal\r\n"))?;
-    play(rt, alloc, hub, desk, &UNAVAILABLE_AFTER)
+) {
+    play(rt, alloc, hub, desk, &TWO_READERS_AND_AN_EDITOR);
+    told(
+        rt,
+        alloc,
+        hub,
+        desk,
+        Event::Bytes(1, b"DEFINE gem opal\r\n"),
+    );
+    play(rt, alloc, hub, desk, &UNAVAILABLE_AFTER);
 }
 
 // As a store fails.
 #[test]
-fn a_call_finds_no_store(rt: HostRuntime) -> Result<(), Fail> {
+fn a_call_finds_no_store(rt: HostRuntime) {
     for calls in 0..4u64 {
-        over_failing(&rt, rt.alloc(), calls, true, Run::NoStore)?;
+        over_failing(&rt, rt.alloc(), calls, true, Run::NoStore);
     }
-    Ok(())
 }
 
 // What is told of a reader whose sink has this room, of its next line, and what the sink took.
 fn told_within<K: Preparer>(
+    rt: &impl Abort,
     alloc: Global,
     hub: &mut Hub,
     desk: &mut K,
     id: u64,
     room: usize,
-) -> Result<String, Fail> {
-    let mut sink = LimitedSink::new(alloc, room)?;
+) -> String {
+    let mut sink = LimitedSink::new(alloc, room).expect(rt, "memory");
     let out = send(
         hub,
         desk,
@@ -132,7 +136,7 @@ fn told_within<K: Preparer>(
     );
     let next = send(hub, desk, Event::Bytes(id, b"STATUS\r\n"), &mut sink);
     let text = str::from_utf8(sink.taken()).unwrap_or("not UTF-8");
-    Ok(format!(in alloc; "{out:?} {next:?} {text}")?)
+    format!(in alloc; "{out:?} {next:?} {text}").expect(rt, "memory")
 }
 
 static ONE_OPENED: [Row; 1] = [(
@@ -148,13 +152,12 @@ fn check_room<K: Preparer>(
     hub: &mut Hub,
     desk: &mut K,
     room: usize,
-) -> Result<(), Fail> {
+) {
     let id = (room as u64).saturating_add(1);
-    told(alloc, hub, desk, Event::Opened(id, Kind::Dict))?;
-    let answer = told_within(alloc, hub, desk, id, room)?;
+    told(rt, alloc, hub, desk, Event::Opened(id, Kind::Dict));
+    let answer = told_within(rt, alloc, hub, desk, id, room);
     let taken = answer.strip_prefix("Ok(Close) Err(UnknownConnection) ");
     same(rt, &taken, &FOUND.get(..room));
-    Ok(())
 }
 
 /// A sink that fails within an answer closes its connection alone.
@@ -163,15 +166,15 @@ pub(crate) fn meet_no_room<K: Preparer>(
     alloc: Global,
     hub: &mut Hub,
     desk: &mut K,
-) -> Result<(), Fail> {
-    play(rt, alloc, hub, desk, &ONE_OPENED)?;
+) {
+    play(rt, alloc, hub, desk, &ONE_OPENED);
     for room in 0..FOUND.len() {
-        check_room(rt, alloc, hub, desk, room)?;
+        check_room(rt, alloc, hub, desk, room);
     }
-    play(rt, alloc, hub, desk, &ONE_ANSWERED)
+    play(rt, alloc, hub, desk, &ONE_ANSWERED);
 }
 
 #[test]
-fn a_sink_fails_at_each_octet(rt: HostRuntime) -> Result<(), Fail> {
-    over_memory(&rt, rt.alloc(), true, Run::NoRoom)
+fn a_sink_fails_at_each_octet(rt: HostRuntime) {
+    over_memory(&rt, rt.alloc(), true, Run::NoRoom);
 }

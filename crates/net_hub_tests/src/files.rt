@@ -5,7 +5,6 @@ use dict_proto::LimitedSink;
 use net_hub::{Event, Hub, HubFault, Kind, Out};
 use std::alloc::Global;
 use std::process::Abort;
-use std::test::Fail;
 
 pub(crate) const HOST: &str = "gems.test";
 
@@ -37,37 +36,37 @@ pub(crate) fn same_out(
     same(rt, found, wanted);
 }
 
-fn put<K: Preparer>(hub: &mut Hub, desk: &mut K, sink: &mut LimitedSink) -> Result<(), Fail> {
-    send(hub, desk, Event::Opened(1, Kind::Http), sink)?;
-    send(hub, desk, Event::Bytes(1, PUT), sink)?;
-    Ok(())
+fn put<K: Preparer>(rt: &impl Abort, hub: &mut Hub, desk: &mut K, sink: &mut LimitedSink) {
+    send(hub, desk, Event::Opened(1, Kind::Http), sink).expect(rt, "a connection");
+    send(hub, desk, Event::Bytes(1, PUT), sink).expect(rt, "an answer");
 }
 
 /// Installs `gem`.
-pub(crate) fn install<K: Preparer>(alloc: Global, desk: &mut K) -> Result<(), Fail> {
-    let mut sink = LimitedSink::new(alloc, 1000)?;
-    let mut hub = Hub::new(alloc, HOST)?;
-    put(&mut hub, desk, &mut sink)
+pub(crate) fn install<K: Preparer>(rt: &impl Abort, alloc: Global, desk: &mut K) {
+    let mut sink = LimitedSink::new(alloc, 1000).expect(rt, "memory");
+    let mut hub = Hub::new(alloc, HOST).expect(rt, "memory");
+    put(rt, &mut hub, desk, &mut sink);
 }
 
 /// A desk over which `gem` was installed.
-pub(crate) fn gem_desk(alloc: Global) -> Result<PlainDesk, Fail> {
+pub(crate) fn gem_desk(rt: &impl Abort, alloc: Global) -> PlainDesk {
     let mut desk = PlainDesk::new(alloc);
-    install(alloc, &mut desk)?;
-    Ok(desk)
+    install(rt, alloc, &mut desk);
+    desk
 }
 
 /// What becomes of a connection after an event, and what is put for it.
 pub(crate) fn told<K: Preparer>(
+    rt: &impl Abort,
     alloc: Global,
     hub: &mut Hub,
     desk: &mut K,
     event: Event,
-) -> Result<String, Fail> {
-    let mut sink = LimitedSink::new(alloc, 10_000)?;
+) -> String {
+    let mut sink = LimitedSink::new(alloc, 10_000).expect(rt, "memory");
     let out = send(hub, desk, event, &mut sink);
     let text = str::from_utf8(sink.taken()).unwrap_or("not UTF-8");
-    Ok(format!(in alloc; "{out:?} {text}")?)
+    format!(in alloc; "{out:?} {text}").expect(rt, "memory")
 }
 
 /// An event, and what is told of it.
@@ -80,9 +79,8 @@ pub(crate) fn play<K: Preparer>(
     hub: &mut Hub,
     desk: &mut K,
     rows: &[Row],
-) -> Result<(), Fail> {
+) {
     for (event, wanted) in rows {
-        same_text(rt, told(alloc, hub, desk, *event)?.as_str(), *wanted);
+        same_text(rt, told(rt, alloc, hub, desk, *event).as_str(), *wanted);
     }
-    Ok(())
 }

@@ -3,9 +3,8 @@ use super::files::{HOST, PUT, told};
 use crate::checks::{same, same_text};
 use dict_fixtures::PartsDesk;
 use net_hub::{Event, Hub, Kind};
-use std::alloc::{AllocError, Global};
+use std::alloc::Global;
 use std::process::Abort;
-use std::test::Fail;
 
 // The index and the text of `PUT`, before 70,000 octets of text that no entry has.
 const FRONT: &[u8] =
@@ -87,14 +86,16 @@ static CASES: [(&str, &str, &str); 12] = [
 ];
 
 // A request with this head.
-fn request(alloc: Global, head: &str) -> Result<Vec<u8>, AllocError> {
+fn request(rt: &impl Abort, alloc: Global, head: &str) -> Vec<u8> {
     let mut octets = Vec::new(alloc);
-    octets.extend_from_slice(head.as_bytes())?;
-    octets.extend_from_slice(FRONT)?;
+    octets
+        .extend_from_slice(head.as_bytes())
+        .expect(rt, "memory");
+    octets.extend_from_slice(FRONT).expect(rt, "memory");
     for _ in 0..700u64 {
-        octets.extend_from_slice(&[b'x'; 100])?;
+        octets.extend_from_slice(&[b'x'; 100]).expect(rt, "memory");
     }
-    Ok(octets)
+    octets
 }
 
 // A hub over a desk that notes what it is told of, what was foreseen, and what was answered.
@@ -107,57 +108,49 @@ struct Run {
 }
 
 impl Run {
-    fn new(alloc: Global) -> Result<Run, Fail> {
-        Ok(Run {
-            hub: Hub::new(alloc, HOST)?,
+    fn new(rt: &impl Abort, alloc: Global) -> Run {
+        Run {
+            hub: Hub::new(alloc, HOST).expect(rt, "memory"),
             desk: PartsDesk::new(alloc, 0),
             foreseen: String::new(alloc),
             answers: String::new(alloc),
-        })
+        }
     }
 
     // Notes what an event is answered.
-    fn take(&mut self, alloc: Global, event: Event) -> Result<(), Fail> {
-        let answer = told(alloc, &mut self.hub, &mut self.desk, event)?;
-        self.answers.push_str(answer.as_str())?;
-        Ok(())
+    fn take(&mut self, rt: &impl Abort, alloc: Global, event: Event) {
+        let answer = told(rt, alloc, &mut self.hub, &mut self.desk, event);
+        self.answers.push_str(answer.as_str()).expect(rt, "memory");
     }
 
     fn foresee(&mut self, id: u64, piece: &[u8]) -> bool {
         self.hub.foresee(&mut self.desk, id, piece)
     }
 
-    fn note(&mut self, id: u64, piece: &[u8]) -> Result<(), Fail> {
+    fn note(&mut self, rt: &impl Abort, id: u64, piece: &[u8]) {
         let word = if self.foresee(id, piece) {
             "true "
         } else {
             "false "
         };
-        self.foreseen.push_str(word)?;
-        Ok(())
+        self.foreseen.push_str(word).expect(rt, "memory");
     }
 
     // A request in two pieces, each of which is foreseen first where that is asked for.
-    fn send(&mut self, alloc: Global, octets: &[u8], is_foreseen: bool) -> Result<(), Fail> {
-        self.take(alloc, Event::Opened(1, Kind::Http))?;
+    fn send(&mut self, rt: &impl Abort, alloc: Global, octets: &[u8], is_foreseen: bool) {
+        self.take(rt, alloc, Event::Opened(1, Kind::Http));
         for piece in octets.chunks(66_000) {
             if is_foreseen {
-                self.note(1, piece)?;
+                self.note(rt, 1, piece);
             }
-            self.take(alloc, Event::Bytes(1, piece))?;
+            self.take(rt, alloc, Event::Bytes(1, piece));
         }
-        Ok(())
     }
 
     // A kept id, a reader's octets, those of no connection, and small requests.
-    fn foresee_others(
-        &mut self,
-        rt: &impl Abort,
-        alloc: Global,
-        octets: &[u8],
-    ) -> Result<(), Fail> {
-        self.take(alloc, Event::Opened(2, Kind::Http))?;
-        self.take(alloc, Event::Opened(3, Kind::Dict))?;
+    fn foresee_others(&mut self, rt: &impl Abort, alloc: Global, octets: &[u8]) {
+        self.take(rt, alloc, Event::Opened(2, Kind::Http));
+        self.take(rt, alloc, Event::Opened(3, Kind::Dict));
         same(rt, &self.foresee(2, octets), &false);
         same(rt, &self.foresee(2, PUT), &false);
         same(rt, &self.foresee(2, KEPT), &false);
@@ -166,16 +159,15 @@ impl Run {
         same(rt, &self.foresee(2, VIRTUAL), &true);
         same(rt, &self.foresee(3, octets), &false);
         same(rt, &self.foresee(4, octets), &false);
-        Ok(())
     }
 
     // A request in two pieces, where this one was foreseen in place of the second.
-    fn send_behind(&mut self, alloc: Global, octets: &[u8], foreseen: &[u8]) -> Result<(), Fail> {
-        self.take(alloc, Event::Opened(1, Kind::Http))?;
+    fn send_behind(&mut self, rt: &impl Abort, alloc: Global, octets: &[u8], foreseen: &[u8]) {
+        self.take(rt, alloc, Event::Opened(1, Kind::Http));
         let (first, second) = octets.split_at_checked(66_000).unwrap_or((octets, &[]));
-        self.take(alloc, Event::Bytes(1, first))?;
-        self.note(1, foreseen)?;
-        self.take(alloc, Event::Bytes(1, second))
+        self.take(rt, alloc, Event::Bytes(1, first));
+        self.note(rt, 1, foreseen);
+        self.take(rt, alloc, Event::Bytes(1, second));
     }
 
     // What is answered then, where as many commands as are wanted were answered by what was prepared, and applied.
@@ -186,11 +178,11 @@ impl Run {
         octets: &[u8],
         foreseen: &[u8],
         wanted: (u32, u32),
-    ) -> Result<String, Fail> {
-        self.send_behind(alloc, octets, foreseen)?;
+    ) -> String {
+        self.send_behind(rt, alloc, octets, foreseen);
         same_text(rt, self.foreseen.as_str(), "true ");
         same(rt, &(self.desk.answered, self.desk.applied), &wanted);
-        Ok(self.answers.clone()?)
+        self.answers.clone().expect(rt, "memory")
     }
 
     // What is answered, where all else is what is wanted.
@@ -200,14 +192,14 @@ impl Run {
         alloc: Global,
         octets: &[u8],
         wanted: Wanted<'_>,
-    ) -> Result<String, Fail> {
-        self.send(alloc, octets, wanted.is_foreseen)?;
+    ) -> String {
+        self.send(rt, alloc, octets, wanted.is_foreseen);
         if wanted.has_others {
-            self.foresee_others(rt, alloc, octets)?;
+            self.foresee_others(rt, alloc, octets);
         }
         same_text(rt, self.foreseen.as_str(), wanted.foreseen);
         same_text(rt, self.desk.noted(), wanted.noted);
-        Ok(self.answers.clone()?)
+        self.answers.clone().expect(rt, "memory")
     }
 }
 
@@ -221,13 +213,8 @@ struct Wanted<'a> {
 }
 
 // The answers to a request in a run of its own.
-fn answers_to(
-    rt: &impl Abort,
-    alloc: Global,
-    octets: &[u8],
-    wanted: Wanted<'_>,
-) -> Result<String, Fail> {
-    let mut run = Run::new(alloc)?;
+fn answers_to(rt: &impl Abort, alloc: Global, octets: &[u8], wanted: Wanted<'_>) -> String {
+    let mut run = Run::new(rt, alloc);
     run.look(rt, alloc, octets, wanted)
 }
 
@@ -246,33 +233,30 @@ const OTHERS: Wanted<'static> = Wanted {
 };
 
 // What is foreseen is what is wanted, and the answers are those of the same request where nothing was foreseen.
-fn check(rt: &impl Abort, alloc: Global, octets: &[u8], wanted: Wanted<'_>) -> Result<(), Fail> {
-    let answers = answers_to(rt, alloc, octets, wanted)?;
-    let alone = answers_to(rt, alloc, octets, NOTHING)?;
+fn check(rt: &impl Abort, alloc: Global, octets: &[u8], wanted: Wanted<'_>) {
+    let answers = answers_to(rt, alloc, octets, wanted);
+    let alone = answers_to(rt, alloc, octets, NOTHING);
     same_text(rt, answers.as_str(), alone.as_str());
-    Ok(())
 }
 
 #[test]
-fn changes_are_foreseen(rt: HostRuntime) -> Result<(), Fail> {
+fn changes_are_foreseen(rt: HostRuntime) {
     for (head, foreseen, noted) in &CASES {
-        let octets = request(rt.alloc(), *head)?;
+        let octets = request(&rt, rt.alloc(), *head);
         let wanted = Wanted {
             is_foreseen: true,
             has_others: false,
             foreseen: *foreseen,
             noted: *noted,
         };
-        check(&rt, rt.alloc(), &octets, wanted)?;
+        check(&rt, rt.alloc(), &octets, wanted);
     }
-    Ok(())
 }
 
 #[test]
-fn other_octets_are_not_foreseen(rt: HostRuntime) -> Result<(), Fail> {
-    let octets = request(rt.alloc(), INSTALL)?;
-    answers_to(&rt, rt.alloc(), &octets, OTHERS)?;
-    Ok(())
+fn other_octets_are_not_foreseen(rt: HostRuntime) {
+    let octets = request(&rt, rt.alloc(), INSTALL);
+    answers_to(&rt, rt.alloc(), &octets, OTHERS);
 }
 
 // The answers to a request of which this was foreseen in place of the second piece, in a run of its own.
@@ -282,28 +266,27 @@ fn answers_behind(
     octets: &[u8],
     foreseen: &[u8],
     wanted: (u32, u32),
-) -> Result<String, Fail> {
-    let mut run = Run::new(alloc)?;
+) -> String {
+    let mut run = Run::new(rt, alloc);
     run.look_behind(rt, alloc, octets, foreseen, wanted)
 }
 
 // The second piece of a request, and the same with another last octet.
-fn pieces_of(alloc: Global, octets: &[u8]) -> Result<(Vec<u8>, Vec<u8>), AllocError> {
+fn pieces_of(rt: &impl Abort, alloc: Global, octets: &[u8]) -> (Vec<u8>, Vec<u8>) {
     let piece = octets.get(66_000..).unwrap_or(&[]);
-    let mut other = Vec::from_slice(alloc, piece)?;
+    let mut other = Vec::from_slice(alloc, piece).expect(rt, "memory");
     if let Some(last) = other.last_mut() {
         *last = b'y';
     }
-    Ok((Vec::from_slice(alloc, piece)?, other))
+    (Vec::from_slice(alloc, piece).expect(rt, "memory"), other)
 }
 
 // What was prepared answers the request that was foreseen. One whose text is another in one octet is answered without.
 #[test]
-fn what_was_prepared_answers(rt: HostRuntime) -> Result<(), Fail> {
-    let octets = request(rt.alloc(), INSTALL)?;
-    let (piece, other) = pieces_of(rt.alloc(), &octets)?;
-    let answers = answers_behind(&rt, rt.alloc(), &octets, &piece, (1, 1))?;
-    let without = answers_behind(&rt, rt.alloc(), &octets, &other, (0, 1))?;
+fn what_was_prepared_answers(rt: HostRuntime) {
+    let octets = request(&rt, rt.alloc(), INSTALL);
+    let (piece, other) = pieces_of(&rt, rt.alloc(), &octets);
+    let answers = answers_behind(&rt, rt.alloc(), &octets, &piece, (1, 1));
+    let without = answers_behind(&rt, rt.alloc(), &octets, &other, (0, 1));
     same_text(&rt, without.as_str(), answers.as_str());
-    Ok(())
 }

@@ -7,7 +7,6 @@ use dict_proto::LimitedSink;
 use net_hub::{Event, Hub, HubFault, Kind, Out};
 use std::alloc::Global;
 use std::process::Abort;
-use std::test::Fail;
 
 // Opens an editor's connection.
 fn open<K: Preparer>(
@@ -85,18 +84,17 @@ pub(crate) fn open_and_close<K: Preparer>(
     alloc: Global,
     hub: &mut Hub,
     desk: &mut K,
-) -> Result<(), Fail> {
-    let mut sink = LimitedSink::new(alloc, 1000)?;
+) {
+    let mut sink = LimitedSink::new(alloc, 1000).expect(rt, "memory");
     for id in 0..4_096u64 {
         open_twice(rt, hub, desk, &mut sink, id);
     }
     at_once(rt, hub, desk, &mut sink);
-    Ok(())
 }
 
 #[test]
-fn connections_open_and_close(rt: HostRuntime) -> Result<(), Fail> {
-    over_memory(&rt, rt.alloc(), false, Run::OpenAndClose)
+fn connections_open_and_close(rt: HostRuntime) {
+    over_memory(&rt, rt.alloc(), false, Run::OpenAndClose);
 }
 
 #[test]
@@ -111,42 +109,44 @@ const INSTALLED: &str =
 
 // The pieces, until one is answered: how many there were.
 fn take_pieces<K: Preparer>(
+    rt: &impl Abort,
     hub: &mut Hub,
     desk: &mut K,
     sink: &mut LimitedSink,
     pieces: &[&[u8]],
-) -> Result<usize, Fail> {
-    send(hub, desk, Event::Opened(1, Kind::Http), sink)?;
+) -> usize {
+    send(hub, desk, Event::Opened(1, Kind::Http), sink).expect(rt, "a connection");
     for (count, piece) in pieces.iter().enumerate() {
-        match send(hub, desk, Event::Bytes(1, piece), sink)? {
+        match send(hub, desk, Event::Bytes(1, piece), sink).expect(rt, "a piece") {
             Out::More => {}
-            Out::Close => return Ok(count.saturating_add(1)),
+            Out::Close => return count.saturating_add(1),
         }
     }
-    Ok(0)
+    0
 }
 
 // Their count, and what was put into a sink with this room.
 fn told_pieces<K: Preparer>(
+    rt: &impl Abort,
     alloc: Global,
     hub: &mut Hub,
     desk: &mut K,
     pieces: &[&[u8]],
     room: usize,
-) -> Result<String, Fail> {
-    let mut sink = LimitedSink::new(alloc, room)?;
-    let count = take_pieces(hub, desk, &mut sink, pieces)?;
+) -> String {
+    let mut sink = LimitedSink::new(alloc, room).expect(rt, "memory");
+    let count = take_pieces(rt, hub, desk, &mut sink, pieces);
     let text = str::from_utf8(sink.taken()).unwrap_or("not UTF-8");
-    Ok(format!(in alloc; "{count} {text}")?)
+    format!(in alloc; "{count} {text}").expect(rt, "memory")
 }
 
 // What is told of an install whose octets come one by one.
-fn told_octets<K: Preparer>(alloc: Global, hub: &mut Hub, desk: &mut K) -> Result<String, Fail> {
+fn told_octets<K: Preparer>(rt: &impl Abort, alloc: Global, hub: &mut Hub, desk: &mut K) -> String {
     let mut pieces = Vec::new(alloc);
     for octet in PUT.chunks(1) {
-        pieces.push(octet)?;
+        pieces.push(octet).expect(rt, "memory");
     }
-    told_pieces(alloc, hub, desk, &pieces, 1000)
+    told_pieces(rt, alloc, hub, desk, &pieces, 1000)
 }
 
 /// It is installed once the last of them came.
@@ -155,36 +155,29 @@ pub(crate) fn single_octets<K: Preparer>(
     alloc: Global,
     hub: &mut Hub,
     desk: &mut K,
-) -> Result<(), Fail> {
-    let told = told_octets(alloc, hub, desk)?;
+) {
+    let told = told_octets(rt, alloc, hub, desk);
     let count = PUT.len();
-    let wanted = format!(in alloc; "{count} {INSTALLED}")?;
+    let wanted = format!(in alloc; "{count} {INSTALLED}").expect(rt, "memory");
     same_text(rt, told.as_str(), wanted.as_str());
-    Ok(())
 }
 
 #[test]
-fn a_request_octet_by_octet(rt: HostRuntime) -> Result<(), Fail> {
-    over_memory(&rt, rt.alloc(), false, Run::SingleOctets)
+fn a_request_octet_by_octet(rt: HostRuntime) {
+    over_memory(&rt, rt.alloc(), false, Run::SingleOctets);
 }
 
 /// What stands behind a request is no second one, and an answer that isn't taken closes too.
-pub(crate) fn one_piece<K: Preparer>(
-    rt: &impl Abort,
-    alloc: Global,
-    hub: &mut Hub,
-    desk: &mut K,
-) -> Result<(), Fail> {
+pub(crate) fn one_piece<K: Preparer>(rt: &impl Abort, alloc: Global, hub: &mut Hub, desk: &mut K) {
     let piece =
         b"DELETE /databases/gem HTTP/1.1\r\n\r\nDELETE /databases/gem HTTP/1.1\r\n\r\n".as_slice();
-    let told = told_pieces(alloc, hub, desk, &[piece], 3)?;
+    let told = told_pieces(rt, alloc, hub, desk, &[piece], 3);
     same_text(rt, told.as_str(), "1 HTT");
-    Ok(())
 }
 
 #[test]
-fn one_request_a_connection(rt: HostRuntime) -> Result<(), Fail> {
-    over_memory(&rt, rt.alloc(), false, Run::OnePiece)
+fn one_request_a_connection(rt: HostRuntime) {
+    over_memory(&rt, rt.alloc(), false, Run::OnePiece);
 }
 
 const INSTALLED_TOLD: &str =
@@ -223,29 +216,23 @@ static BEFORE_AN_INSTALL: [Row; 5] = [
 ];
 
 #[test]
-fn installs_beside_a_line(rt: HostRuntime) -> Result<(), Fail> {
-    over_memory(&rt, rt.alloc(), false, Run::Rows(&BETWEEN_TWO_PIECES))
+fn installs_beside_a_line(rt: HostRuntime) {
+    over_memory(&rt, rt.alloc(), false, Run::Rows(&BETWEEN_TWO_PIECES));
 }
 
 #[test]
-fn a_line_before_an_install(rt: HostRuntime) -> Result<(), Fail> {
-    over_memory(&rt, rt.alloc(), false, Run::Rows(&BEFORE_AN_INSTALL))
+fn a_line_before_an_install(rt: HostRuntime) {
+    over_memory(&rt, rt.alloc(), false, Run::Rows(&BEFORE_AN_INSTALL));
 }
 
 // Opens connections of both kinds in turn, with the ids from 1.
-fn open_many<K: Preparer>(
-    rt: &impl Abort,
-    alloc: Global,
-    hub: &mut Hub,
-    desk: &mut K,
-) -> Result<(), Fail> {
-    let mut sink = LimitedSink::new(alloc, 10_000)?;
+fn open_many<K: Preparer>(rt: &impl Abort, alloc: Global, hub: &mut Hub, desk: &mut K) {
+    let mut sink = LimitedSink::new(alloc, 10_000).expect(rt, "memory");
     for id in 1..65u64 {
         let kind = if id % 2 == 0 { Kind::Http } else { Kind::Dict };
         let out = send(hub, desk, Event::Opened(id, kind), &mut sink);
         same_out(rt, &out, &Ok(Out::More));
     }
-    Ok(())
 }
 
 // The end of an unfinished request installs nothing, and more than 64 connections are refused.
@@ -277,12 +264,12 @@ pub(crate) fn come_and_go<K: Preparer>(
     alloc: Global,
     hub: &mut Hub,
     desk: &mut K,
-) -> Result<(), Fail> {
-    open_many(rt, alloc, hub, desk)?;
-    play(rt, alloc, hub, desk, &WITH_MANY)
+) {
+    open_many(rt, alloc, hub, desk);
+    play(rt, alloc, hub, desk, &WITH_MANY);
 }
 
 #[test]
-fn connections_come_and_go(rt: HostRuntime) -> Result<(), Fail> {
-    over_memory(&rt, rt.alloc(), false, Run::ComeAndGo)
+fn connections_come_and_go(rt: HostRuntime) {
+    over_memory(&rt, rt.alloc(), false, Run::ComeAndGo);
 }

@@ -9,7 +9,6 @@ use http_service::{Need, Service, need};
 use net_hub::{Event, Hub, HubFault, Kind};
 use std::alloc::Global;
 use std::process::Abort;
-use std::test::Fail;
 
 static READERS: [&[u8]; 4] = [
     b"DEFINE gem opal\r\nQUIT\r\n",
@@ -41,66 +40,72 @@ fn kind_of(id: u64) -> Kind {
 
 // A session of this number that is sent all at once.
 fn reader_alone(
+    rt: &impl Abort,
     alloc: Global,
     desk: &mut PlainDesk,
     id: u64,
     sink: &mut LimitedSink,
-) -> Result<(), Fail> {
-    let mut session = Session::new(alloc, HOST, id)?;
+) {
+    let mut session = Session::new(alloc, HOST, id).expect(rt, "memory");
     session.greet(sink);
     session.feed(alloc, sent(id), desk, sink);
-    Ok(())
 }
 
 // The answer to a request that is sent all at once.
 fn editor_alone(
+    rt: &impl Abort,
     alloc: Global,
     desk: &mut PlainDesk,
     id: u64,
     sink: &mut LimitedSink,
-) -> Result<(), Fail> {
+) {
     let octets = sent(id);
     if let Need::More = need(octets) {
-        return Ok(());
+        return;
     }
-    let service = Service::new(alloc)?;
+    let service = Service::new(alloc).expect(rt, "memory");
     let _ = service.respond(alloc, octets, desk).put(sink);
-    Ok(())
 }
 
-fn alone(alloc: Global, desk: &mut PlainDesk, id: u64, sink: &mut LimitedSink) -> Result<(), Fail> {
+fn alone(rt: &impl Abort, alloc: Global, desk: &mut PlainDesk, id: u64, sink: &mut LimitedSink) {
     match kind_of(id) {
-        Kind::Dict => reader_alone(alloc, desk, id, sink),
-        Kind::Http => editor_alone(alloc, desk, id, sink),
+        Kind::Dict => reader_alone(rt, alloc, desk, id, sink),
+        Kind::Http => editor_alone(rt, alloc, desk, id, sink),
     }
 }
 
 // Whether that is what came to a sink.
-fn comes_alone(alloc: Global, desk: &mut PlainDesk, id: u64, taken: &[u8]) -> Result<bool, Fail> {
-    let mut sink = LimitedSink::new(alloc, 10_000)?;
-    alone(alloc, desk, id, &mut sink)?;
-    Ok(sink.taken() == taken)
+fn comes_alone(
+    rt: &impl Abort,
+    alloc: Global,
+    desk: &mut PlainDesk,
+    id: u64,
+    taken: &[u8],
+) -> bool {
+    let mut sink = LimitedSink::new(alloc, 10_000).expect(rt, "memory");
+    alone(rt, alloc, desk, id, &mut sink);
+    sink.taken() == taken
 }
 
 // The same over a desk of its own.
-fn is_as_alone(alloc: Global, id: u64, taken: &[u8]) -> Result<bool, Fail> {
-    let mut desk = gem_desk(alloc)?;
-    comes_alone(alloc, &mut desk, id, taken)
+fn is_as_alone(rt: &impl Abort, alloc: Global, id: u64, taken: &[u8]) -> bool {
+    let mut desk = gem_desk(rt, alloc);
+    comes_alone(rt, alloc, &mut desk, id, taken)
 }
 
 // Opens 64 connections, each with a sink of its own.
 fn open_all<K: Preparer>(
+    rt: &impl Abort,
     alloc: Global,
     hub: &mut Hub,
     desk: &mut K,
     sinks: &mut Vec<LimitedSink>,
-) -> Result<(), Fail> {
+) {
     for id in 1..65u64 {
-        let mut sink = LimitedSink::new(alloc, 10_000)?;
-        send(hub, desk, Event::Opened(id, kind_of(id)), &mut sink)?;
-        sinks.push(sink)?;
+        let mut sink = LimitedSink::new(alloc, 10_000).expect(rt, "memory");
+        send(hub, desk, Event::Opened(id, kind_of(id)), &mut sink).expect(rt, "a connection");
+        sinks.push(sink).expect(rt, "memory");
     }
-    Ok(())
 }
 
 // Sends each connection its octet of this place. What comes on one that is closed is refused.
@@ -120,13 +125,12 @@ fn end_each<K: Preparer>(
     hub: &mut Hub,
     desk: &mut K,
     sinks: &mut [LimitedSink],
-) -> Result<(), Fail> {
+) {
     for (id, sink) in (1..65u64).zip(sinks.iter_mut()) {
-        same(rt, &is_as_alone(alloc, id, sink.taken())?, &true);
+        same(rt, &is_as_alone(rt, alloc, id, sink.taken()), &true);
         let end = send(hub, desk, Event::Ended(id), sink);
         same_out(rt, &end, &Err(HubFault::UnknownConnection));
     }
-    Ok(())
 }
 
 fn send_and_end<K: Preparer>(
@@ -135,26 +139,21 @@ fn send_and_end<K: Preparer>(
     hub: &mut Hub,
     desk: &mut K,
     sinks: &mut [LimitedSink],
-) -> Result<(), Fail> {
+) {
     for place in 0..300 {
         send_each(hub, desk, sinks, place);
     }
-    end_each(rt, alloc, hub, desk, sinks)
+    end_each(rt, alloc, hub, desk, sinks);
 }
 
 /// All are opened, sent their octets in turn, and ended.
-pub(crate) fn serve_all<K: Preparer>(
-    rt: &impl Abort,
-    alloc: Global,
-    hub: &mut Hub,
-    desk: &mut K,
-) -> Result<(), Fail> {
+pub(crate) fn serve_all<K: Preparer>(rt: &impl Abort, alloc: Global, hub: &mut Hub, desk: &mut K) {
     let mut sinks = Vec::new(alloc);
-    open_all(alloc, hub, desk, &mut sinks)?;
-    send_and_end(rt, alloc, hub, desk, &mut sinks)
+    open_all(rt, alloc, hub, desk, &mut sinks);
+    send_and_end(rt, alloc, hub, desk, &mut sinks);
 }
 
 #[test]
-fn many_connections_octet_by_octet(rt: HostRuntime) -> Result<(), Fail> {
-    over_memory(&rt, rt.alloc(), true, Run::Together)
+fn many_connections_octet_by_octet(rt: HostRuntime) {
+    over_memory(&rt, rt.alloc(), true, Run::Together);
 }
