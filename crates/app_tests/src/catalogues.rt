@@ -1,19 +1,15 @@
 //! Catalogues in files that are changed, listed, asked and read whole.
-use super::fixtures::{Inputs, ROOM, Row, differing, is_so, outcome, remove, run};
+use super::fixtures::{Inputs, ROOM, Row, compare, outcome, remove, run, same_outcome};
 use super::rows;
-use crate::checks::{holds, same_text};
 use app_words::OverFiles;
 use dict_fixtures::{GEM_INDEX, GEM_TEXT};
 use std::fs;
 use std::process::Abort;
-use std::test::Fail;
 
-// Nothing comes out otherwise of these commands over a file that isn't there before and after.
-fn play(test: &impl Abort, rt: &HostRuntime, file: &str, rows: &[Row]) -> Result<(), Fail> {
-    let told = differing(rt, file, rows)?;
-    let is_as_wanted = told.is_empty();
-    holds(test, is_as_wanted, told.as_str());
-    remove(rt, file)
+// Each of these commands over a file that isn't there before and after comes out as it says.
+fn play(test: &impl Abort, rt: &HostRuntime, file: &str, rows: &[Row]) {
+    compare(test, rt, file, rows);
+    remove(test, rt, file);
 }
 
 // Commands in turn, each run over a file of its own.
@@ -30,12 +26,11 @@ fn plays() -> [(&'static str, &'static [Row]); 8] {
     ]
 }
 
-pub(crate) fn commands_one_after_another(test: &impl Abort, rt: &HostRuntime) -> Result<(), Fail> {
+pub(crate) fn commands_one_after_another(test: &impl Abort, rt: &HostRuntime) {
     for (file, rows) in &plays() {
-        play(test, rt, file, *rows)?;
+        play(test, rt, file, *rows);
     }
-    same_text(test, differing(rt, "", &rows::PLAIN)?.as_str(), "");
-    Ok(())
+    compare(test, rt, "", &rows::PLAIN);
 }
 
 /// Words, what standard input has, how many octets standard output takes, the status, what it took, and what is told.
@@ -80,19 +75,13 @@ static CUT: [Cut; 7] = [
     (&["--help"], "", 6, 3, "A DICT", "cannot write output\n"),
 ];
 
-// Whether a row's words over a file end as it says.
-fn is_cut(rt: &HostRuntime, file: &str, cut: &Cut) -> Result<bool, Fail> {
-    let (words, input, room, status, printed, told) = cut;
-    let found = run(rt, file, *words, *input, *room)?;
-    Ok(is_so(&found, *status, printed, told))
-}
-
-pub(crate) fn outputs_that_are_full(test: &impl Abort, rt: &HostRuntime) -> Result<(), Fail> {
+pub(crate) fn outputs_that_are_full(test: &impl Abort, rt: &HostRuntime) {
     let file = "dictcat_cut.db";
-    for cut in &CUT {
-        holds(test, is_cut(rt, file, cut)?, cut.4);
+    for (words, input, room, status, printed, told) in &CUT {
+        let found = run(test, rt, file, *words, *input, *room);
+        same_outcome(test, *words, &found, *status, printed, told);
     }
-    remove(rt, file)
+    remove(test, rt, file);
 }
 
 // Words over files of the machine; what standard input has, the status and what is printed.
@@ -134,29 +123,20 @@ static OVER_FILES: [Asked; 4] = [
     ),
 ];
 
-// Whether a row's words are answered as it says, and nothing is told.
-fn is_answered(rt: &HostRuntime, asked: &Asked) -> Result<bool, Fail> {
-    let (words, input, status, printed) = asked;
-    let found = outcome(
-        rt,
-        *words,
-        &Inputs::Machine(OverFiles::new(rt)),
-        *input,
-        ROOM,
-    )?;
-    Ok(is_so(&found, *status, printed, ""))
+// Each row's words are answered as it says, and nothing is told.
+fn compare_over_files(test: &impl Abort, rt: &HostRuntime) {
+    for (words, input, status, printed) in &OVER_FILES {
+        let files = Inputs::Machine(OverFiles::new(rt));
+        let found = outcome(test, rt, *words, &files, *input, ROOM);
+        same_outcome(test, *words, &found, *status, printed, "");
+    }
 }
 
-pub(crate) fn files_of_the_machine_are_read(
-    test: &impl Abort,
-    rt: &HostRuntime,
-) -> Result<(), Fail> {
-    fs::write(rt, "dictcat_asked.index", GEM_INDEX)?;
-    fs::write(rt, "dictcat_asked.dict", GEM_TEXT)?;
-    for asked in &OVER_FILES {
-        holds(test, is_answered(rt, asked)?, asked.3);
-    }
-    fs::remove_file(rt, "dictcat_asked.index")?;
-    fs::remove_file(rt, "dictcat_asked.dict")?;
-    remove(rt, "dictcat_asked.db")
+pub(crate) fn files_of_the_machine_are_read(test: &impl Abort, rt: &HostRuntime) {
+    fs::write(rt, "dictcat_asked.index", GEM_INDEX).expect(test, "an index");
+    fs::write(rt, "dictcat_asked.dict", GEM_TEXT).expect(test, "a text");
+    compare_over_files(test, rt);
+    fs::remove_file(rt, "dictcat_asked.index").expect(test, "an index");
+    fs::remove_file(rt, "dictcat_asked.dict").expect(test, "a text");
+    remove(test, rt, "dictcat_asked.db");
 }

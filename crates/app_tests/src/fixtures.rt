@@ -9,7 +9,7 @@ use dictcat_lib::{CatalogueFiles, SystemFiles, run_over};
 use sqlite::Unknown;
 use std::alloc::Global;
 use std::fs;
-use std::test::Fail;
+use std::process::Abort;
 
 // The index whose last line cuts one octet too many.
 const LONG_INDEX: &[u8] = b"00-database-short\tA\tZ\nopal\tZ\tP\nFire Opal\tZ\tP\ndot\to\tG\n";
@@ -70,14 +70,15 @@ pub(crate) const ROOM: usize = 4000;
 
 /// What comes of these words with this input over these files, where standard output takes so many octets.
 pub(crate) fn outcome(
+    test: &impl Abort,
     rt: &HostRuntime,
     words: &[&str],
     files: &Inputs<'_>,
     input: &str,
     room: usize,
-) -> Result<Outcome, Fail> {
-    let mut writer = LimitedSink::new(rt.alloc(), room)?;
-    let mut faults = LimitedSink::new(rt.alloc(), 1000)?;
+) -> Outcome {
+    let mut writer = LimitedSink::new(rt.alloc(), room).expect(test, "memory");
+    let mut faults = LimitedSink::new(rt.alloc(), 1000).expect(test, "memory");
     let status = run_over(
         rt,
         words,
@@ -88,57 +89,65 @@ pub(crate) fn outcome(
         &mut writer,
         &mut faults,
     );
-    Ok((
+    (
         status,
-        taken(rt.alloc(), &writer)?,
-        taken(rt.alloc(), &faults)?,
-    ))
+        taken(test, rt.alloc(), &writer),
+        taken(test, rt.alloc(), &faults),
+    )
 }
 
 /// What comes of these words behind the program's name, where `FILE` stands for a path, over the examples.
 pub(crate) fn run(
+    test: &impl Abort,
     rt: &HostRuntime,
     file: &str,
     words: &[&str],
     input: &str,
     room: usize,
-) -> Result<Outcome, Fail> {
+) -> Outcome {
     let alloc = rt.alloc();
     let mut all = Vec::new(alloc);
-    all.push("dictcat")?;
+    all.push("dictcat").expect(test, "memory");
     for word in words {
-        all.push(if *word == "FILE" { file } else { *word })?;
+        all.push(if *word == "FILE" { file } else { *word })
+            .expect(test, "memory");
     }
-    outcome(rt, all.as_slice(), &Inputs::Examples(alloc), input, room)
+    let files = Inputs::Examples(alloc);
+    outcome(test, rt, all.as_slice(), &files, input, room)
 }
 
-/// Whether the status, what is printed and what is told are these.
-pub(crate) fn is_so(found: &Outcome, status: u8, printed: &str, told: &str) -> bool {
-    found.0 == status && found.1.as_str() == printed && found.2.as_str() == told
+/// The status, what is printed and what is told by these words are these.
+pub(crate) fn same_outcome(
+    test: &impl Abort,
+    words: &[&str],
+    found: &Outcome,
+    status: u8,
+    printed: &str,
+    told: &str,
+) {
+    let is_so = found.0 == status && found.1.as_str() == printed && found.2.as_str() == told;
+    assert!(test; is_so, "{words:?} gave {found:?}");
 }
 
-/// The first row that comes out otherwise, and how; nothing where each is as it says.
-pub(crate) fn differing(rt: &HostRuntime, file: &str, rows: &[Row]) -> Result<String, Fail> {
+/// Each row comes out as it says.
+pub(crate) fn compare(test: &impl Abort, rt: &HostRuntime, file: &str, rows: &[Row]) {
     for (words, input, status, printed, told) in rows {
-        let found = run(rt, file, *words, *input, ROOM)?;
-        if !is_so(&found, *status, printed, told) {
-            return Ok(format!(in rt.alloc(); "{words:?} gave {found:?}")?);
-        }
+        let found = run(test, rt, file, *words, *input, ROOM);
+        same_outcome(test, *words, &found, *status, printed, told);
     }
-    Ok(String::new(rt.alloc()))
 }
 
 /// What a sink took, as text.
-pub(crate) fn taken(alloc: Global, sink: &LimitedSink) -> Result<String, Fail> {
-    String::from_utf8(sink.taken().to_vec(alloc)?).map_err(|_| Fail::from("no text"))
+pub(crate) fn taken(test: &impl Abort, alloc: Global, sink: &LimitedSink) -> String {
+    let octets = sink.taken().to_vec(alloc).expect(test, "memory");
+    String::from_utf8(octets).expect(test, "a text")
 }
 
 /// Removes a file, and its log where there is one.
-pub(crate) fn remove(rt: &HostRuntime, path: &str) -> Result<(), Fail> {
-    let log = format!(in rt.alloc(); "{path}-wal")?;
-    if fs::exists(rt, log.as_str())? {
-        fs::remove_file(rt, log.as_str())?;
+pub(crate) fn remove(test: &impl Abort, rt: &HostRuntime, path: &str) {
+    let log = format!(in rt.alloc(); "{path}-wal").expect(test, "memory");
+    if fs::exists(rt, log.as_str()).expect(test, "an answer") {
+        fs::remove_file(rt, log.as_str()).expect(test, "a log");
     }
-    fs::remove_file(rt, path)?;
-    Ok(())
+    fs::remove_file(rt, path).expect(test, "a file");
 }

@@ -1,12 +1,11 @@
 //! Paths without a catalogue, and files that become one.
-use super::fixtures::{ROOM, Row, differing, remove, run};
-use crate::checks::{holds, same, same_text};
+use super::fixtures::{ROOM, Row, compare, remove, run, same_outcome};
+use crate::checks::{holds, same};
 use dict_desk::Fault;
 use sqlite::{FileStore, Start, Unknown};
 use sqlite_disk::Disk;
 use std::fs;
 use std::process::Abort;
-use std::test::Fail;
 use store_desk::{Desk, Unopened};
 
 // The commands over a file but `create`, each with more faults than one.
@@ -33,26 +32,19 @@ static PATHS: [(&str, &str); 6] = [
     ("dictcat_others.db", "fault 43 NotACatalogue\n"),
 ];
 
-// The first command that tells something else of a path than this, and what; nothing where each tells it, with status 3.
-fn told_otherwise(rt: &HostRuntime, file: &str, told: &str) -> Result<String, Fail> {
+// Each command tells this of a path, with status 3.
+fn each_tells(test: &impl Abort, rt: &HostRuntime, file: &str, told: &str) {
     for words in &EACH {
-        let found = run(rt, file, *words, "", ROOM)?;
-        if found.0 != 3 || !found.1.is_empty() || found.2.as_str() != told {
-            return Ok(format!(in rt.alloc(); "{words:?} gave {found:?}")?);
-        }
+        let found = run(test, rt, file, *words, "", ROOM);
+        same_outcome(test, *words, &found, 3, "", told);
     }
-    Ok(String::new(rt.alloc()))
 }
 
-// The same of the first path of which it tells something else.
-fn all_told_otherwise(rt: &HostRuntime) -> Result<String, Fail> {
+// The same of each path.
+fn each_tells_of_each(test: &impl Abort, rt: &HostRuntime) {
     for (path, told) in &PATHS {
-        let found = told_otherwise(rt, path, told)?;
-        if !found.is_empty() {
-            return Ok(found);
-        }
+        each_tells(test, rt, path, told);
     }
-    Ok(String::new(rt.alloc()))
 }
 
 // A SQLite file with a table `t(x)`, whose one row has 7: octets, each with the place up to which zeros follow.
@@ -73,28 +65,28 @@ static OTHERS: [(&[u8], usize); 5] = [
     (b"\x03\x01\x02\x01\x07", 1024),
 ];
 
-fn octets_of_others(rt: &HostRuntime) -> Result<Vec<u8>, Fail> {
+fn octets_of_others(test: &impl Abort, rt: &HostRuntime) -> Vec<u8> {
     let mut octets = Vec::new(rt.alloc());
     for (some, end) in &OTHERS {
-        octets.extend_from_slice(*some)?;
-        octets.resize(*end, 0)?;
+        octets.extend_from_slice(*some).expect(test, "memory");
+        octets.resize(*end, 0).expect(test, "memory");
     }
-    Ok(octets)
+    octets
 }
 
-fn set_up(rt: &HostRuntime) -> Result<(), Fail> {
-    fs::create_dir(rt, "dictcat_folder.db")?;
-    fs::write(rt, "dictcat_text.db", b"00-database-short\n  Gems\n")?;
-    fs::write(rt, "dictcat_empty.db", b"")?;
-    fs::write(rt, "dictcat_others.db", octets_of_others(rt)?.as_slice())?;
-    Ok(())
+fn set_up(test: &impl Abort, rt: &HostRuntime) {
+    fs::create_dir(rt, "dictcat_folder.db").expect(test, "a folder");
+    fs::write(rt, "dictcat_text.db", b"00-database-short\n  Gems\n").expect(test, "a text");
+    fs::write(rt, "dictcat_empty.db", b"").expect(test, "an empty file");
+    let octets = octets_of_others(test, rt);
+    fs::write(rt, "dictcat_others.db", octets.as_slice()).expect(test, "a database");
 }
 
 // Whether the rows of others stand in their file as they did.
-fn others_stand(rt: &HostRuntime) -> Result<bool, Fail> {
-    let left = fs::read(rt, "dictcat_others.db")?;
-    let made = octets_of_others(rt)?;
-    Ok(left.as_slice().get(512..1024) == made.as_slice().get(512..1024))
+fn others_stand(test: &impl Abort, rt: &HostRuntime) -> bool {
+    let left = fs::read(rt, "dictcat_others.db").expect(test, "a database");
+    let made = octets_of_others(test, rt);
+    left.as_slice().get(512..1024) == made.as_slice().get(512..1024)
 }
 
 static MADE: [Row; 2] = [
@@ -105,31 +97,28 @@ static MADE: [Row; 2] = [
 // What `create` makes a catalogue of.
 static MADE_OF: [&str; 2] = ["dictcat_empty.db", "dictcat_others.db"];
 
-// How the first of these becomes none, if one does.
-fn unmade(rt: &HostRuntime) -> Result<String, Fail> {
+// Each of these becomes one.
+fn each_is_made(test: &impl Abort, rt: &HostRuntime) {
     for file in &MADE_OF {
-        let found = differing(rt, file, &MADE)?;
-        if !found.is_empty() {
-            return Ok(found);
-        }
+        compare(test, rt, file, &MADE);
     }
-    Ok(String::new(rt.alloc()))
 }
 
-fn clear(rt: &HostRuntime) -> Result<(), Fail> {
-    fs::remove_dir(rt, "dictcat_folder.db")?;
-    remove(rt, "dictcat_text.db")?;
-    remove(rt, "dictcat_empty.db")?;
-    remove(rt, "dictcat_others.db")
+fn clear(test: &impl Abort, rt: &HostRuntime) {
+    fs::remove_dir(rt, "dictcat_folder.db").expect(test, "a folder");
+    remove(test, rt, "dictcat_text.db");
+    remove(test, rt, "dictcat_empty.db");
+    remove(test, rt, "dictcat_others.db");
 }
 
-pub(crate) fn paths_without_a_catalogue(test: &impl Abort, rt: &HostRuntime) -> Result<(), Fail> {
-    set_up(rt)?;
-    same_text(test, all_told_otherwise(rt)?.as_str(), "");
-    holds(test, !fs::exists(rt, "dictcat_nosuch.db")?, "nosuch");
-    same_text(test, unmade(rt)?.as_str(), "");
-    holds(test, others_stand(rt)?, "others");
-    clear(rt)
+pub(crate) fn paths_without_a_catalogue(test: &impl Abort, rt: &HostRuntime) {
+    set_up(test, rt);
+    each_tells_of_each(test, rt);
+    let is_there = fs::exists(rt, "dictcat_nosuch.db").expect(test, "an answer");
+    holds(test, !is_there, "nosuch");
+    each_is_made(test, rt);
+    holds(test, others_stand(test, rt), "others");
+    clear(test, rt);
 }
 
 // Closes a desk over two files. Whether its log was copied.
@@ -184,13 +173,13 @@ static INSTALLED: [Row; 2] = [
 
 static LISTED: [Row; 1] = [(&["list", "FILE"], "", 0, "0 gem regular 1 - \"Gems\"\n", "")];
 
-pub(crate) fn a_desk_from_a_path(test: &impl Abort, rt: &HostRuntime) -> Result<(), Fail> {
+pub(crate) fn a_desk_from_a_path(test: &impl Abort, rt: &HostRuntime) {
     let path = "dictcat_desk.db";
     let found = opened_at(rt, path, Unknown);
     same(test, &found, &Err(Fault::NotACatalogue));
-    same_text(test, differing(rt, path, &INSTALLED)?.as_str(), "");
+    compare(test, rt, path, &INSTALLED);
     let found = opened_at(rt, path, Unknown);
     same(test, &found, &Ok(true));
-    same_text(test, differing(rt, path, &LISTED)?.as_str(), "");
-    remove(rt, path)
+    compare(test, rt, path, &LISTED);
+    remove(test, rt, path);
 }

@@ -1,20 +1,19 @@
 //! Servers that end after some rounds, and those whose addresses are used.
-use super::fixtures::{Outcome, ROOM, remove, run};
-use crate::checks::{holds, same};
+use super::fixtures::{Outcome, ROOM, remove, run, same_outcome};
+use crate::checks::holds;
 use std::net::TcpListener;
 use std::process::Abort;
-use std::test::Fail;
 
 const FREE: &str = "127.0.0.1:0";
 
 const FILE: &str = "dictcat_served.db";
 
 // What comes of three rounds at these two addresses.
-fn served(rt: &HostRuntime, dict: &str, http: &str) -> Result<Outcome, Fail> {
+fn served(test: &impl Abort, rt: &HostRuntime, dict: &str, http: &str) -> Outcome {
     let words = [
         "serve", "FILE", "--dict", dict, "--http", http, "--rounds", "3",
     ];
-    run(rt, FILE, &words, "", ROOM)
+    run(test, rt, FILE, &words, "", ROOM)
 }
 
 // Whether a server that did its rounds printed its two addresses, and nothing else.
@@ -27,26 +26,26 @@ fn is_served(found: &Outcome) -> bool {
 }
 
 // Whether this address is told to be in use where these two are asked for.
-fn is_in_use(rt: &HostRuntime, dict: &str, http: &str, used: &str) -> Result<bool, Fail> {
-    let found = served(rt, dict, http)?;
+fn is_in_use(test: &impl Abort, rt: &HostRuntime, dict: &str, http: &str, used: &str) -> bool {
+    let found = served(test, rt, dict, http);
     let told = found.2.as_str().strip_prefix("cannot bind ").unwrap_or("");
-    Ok(found.0 == 3 && found.1.is_empty() && told.strip_suffix("\n") == Some(used))
+    found.0 == 3 && found.1.is_empty() && told.strip_suffix("\n") == Some(used)
 }
 
 // Whether an address that is held is told to be in use, for readers and for editors.
-fn a_held_is_in_use(rt: &HostRuntime) -> Result<bool, Fail> {
-    let holder = TcpListener::bind(rt, FREE)?;
-    let used = format!(in rt.alloc(); "{}", holder.local_addr()?)?;
+fn a_held_is_in_use(test: &impl Abort, rt: &HostRuntime) -> bool {
+    let holder = TcpListener::bind(rt, FREE).expect(test, "an address");
+    let address = holder.local_addr().expect(test, "an address");
+    let used = format!(in rt.alloc(); "{address}").expect(test, "memory");
     let used = used.as_str();
-    Ok(is_in_use(rt, used, "none", used)? && is_in_use(rt, FREE, used, used)?)
+    is_in_use(test, rt, used, "none", used) && is_in_use(test, rt, FREE, used, used)
 }
 
-pub(crate) fn a_server_ends_after_its_rounds(
-    test: &impl Abort,
-    rt: &HostRuntime,
-) -> Result<(), Fail> {
-    same(test, &run(rt, FILE, &["create", "FILE"], "", ROOM)?.0, &0);
-    holds(test, is_served(&served(rt, FREE, FREE)?), "served");
-    holds(test, a_held_is_in_use(rt)?, "in use");
-    remove(rt, FILE)
+pub(crate) fn a_server_ends_after_its_rounds(test: &impl Abort, rt: &HostRuntime) {
+    let words = ["create", "FILE"];
+    let made = run(test, rt, FILE, &words, "", ROOM);
+    same_outcome(test, &words, &made, 0, "", "");
+    holds(test, is_served(&served(test, rt, FREE, FREE)), "served");
+    holds(test, a_held_is_in_use(test, rt), "in use");
+    remove(test, rt, FILE);
 }

@@ -1,5 +1,5 @@
 //! Words that ask for help or the version, and words that aren't well.
-use super::fixtures::{ROOM, Row, differing, run, taken};
+use super::fixtures::{ROOM, Row, compare, run, same_outcome, taken};
 use crate::checks::{holds, same_text};
 use app_commands::refuse_words;
 use app_words::VERSION;
@@ -9,7 +9,6 @@ use dict_proto::LimitedSink;
 use std::alloc::{AllocError, Global};
 use std::io;
 use std::process::Abort;
-use std::test::Fail;
 
 const HELP: &str = "A DICT server (RFC 2229) whose answers are proved
 
@@ -142,12 +141,8 @@ static WORDS: [Row; 9] = [
     ),
 ];
 
-pub(crate) fn shows_help_and_tells_mistakes(
-    test: &impl Abort,
-    rt: &HostRuntime,
-) -> Result<(), Fail> {
-    same_text(test, differing(rt, "", &WORDS)?.as_str(), "");
-    Ok(())
+pub(crate) fn shows_help_and_tells_mistakes(test: &impl Abort, rt: &HostRuntime) {
+    compare(test, rt, "", &WORDS);
 }
 
 static NAMES: [&str; 11] = [
@@ -155,44 +150,42 @@ static NAMES: [&str; 11] = [
     "place", "serve",
 ];
 
-pub(crate) fn tells_the_version(test: &impl Abort, rt: &HostRuntime) -> Result<(), Fail> {
-    let due = format!(in rt.alloc(); "dictcat {VERSION}\n")?;
-    let (status, shown, told) = run(rt, "", &["--version"], "", ROOM)?;
-    same_text(test, shown.as_str(), due.as_str());
-    holds(
-        test,
-        status == 0 && told.is_empty(),
-        "status 0, and nothing on standard error",
-    );
-    Ok(())
+pub(crate) fn tells_the_version(test: &impl Abort, rt: &HostRuntime) {
+    let due = format!(in rt.alloc(); "dictcat {VERSION}\n").expect(test, "memory");
+    let words = ["--version"];
+    let found = run(test, rt, "", &words, "", ROOM);
+    same_outcome(test, &words, &found, 0, due.as_str(), "");
 }
 
 // Whether the help of a subcommand has an example and the statuses.
-fn has_example(rt: &HostRuntime, name: &str) -> Result<bool, Fail> {
-    let example = format!(in rt.alloc(); "dictcat {name} ")?;
-    let (status, shown, _) = run(rt, "", &[name, "--help"], "", ROOM)?;
+fn has_example(test: &impl Abort, rt: &HostRuntime, name: &str) -> bool {
+    let example = format!(in rt.alloc(); "dictcat {name} ").expect(test, "memory");
+    let (status, shown, _) = run(test, rt, "", &[name, "--help"], "", ROOM);
     let (_, below) = shown
         .as_str()
         .split_once("\nExample:\n")
         .unwrap_or(("", ""));
-    Ok(status == 0 && below.contains(example.as_str()) && below.contains("\n  4  memory ran out\n"))
+    status == 0 && below.contains(example.as_str()) && below.contains("\n  4  memory ran out\n")
 }
 
-pub(crate) fn each_help_has_an_example_and_the_statuses(
-    test: &impl Abort,
-    rt: &HostRuntime,
-) -> Result<(), Fail> {
+pub(crate) fn each_help_has_an_example_and_the_statuses(test: &impl Abort, rt: &HostRuntime) {
     for name in &NAMES {
-        holds(test, has_example(rt, name)?, name);
+        holds(test, has_example(test, rt, name), name);
     }
-    Ok(())
 }
 
 // Whether words that can't be had for this reason end with this status, and this is told.
-fn is_refused(rt: &HostRuntime, kind: io::ErrorKind, status: u8, told: &str) -> Result<bool, Fail> {
-    let mut faults = LimitedSink::new(rt.alloc(), 1000)?;
+fn is_refused(
+    test: &impl Abort,
+    rt: &HostRuntime,
+    kind: io::ErrorKind,
+    status: u8,
+    told: &str,
+) -> bool {
+    let mut faults = LimitedSink::new(rt.alloc(), 1000).expect(test, "memory");
     let ended = refuse_words(&io::Error::from(kind), &mut faults);
-    Ok(ended == status && taken(rt.alloc(), &faults)?.as_str() == told)
+    let said = taken(test, rt.alloc(), &faults);
+    ended == status && said.as_str() == told
 }
 
 const NOT_TEXT: &str =
@@ -206,26 +199,25 @@ fn line(alloc: Global) -> Result<Command<'static>, AllocError> {
 }
 
 // What clap says of words that are no texts.
-fn said_by_clap(alloc: Global) -> Result<String, Fail> {
+fn said_by_clap(test: &impl Abort, alloc: Global) -> String {
     let message = "invalid UTF-8 was detected in one or more arguments";
-    let error = line(alloc)?.error(ErrorKind::InvalidValue, message)?;
-    Ok(error.to_string(alloc)?)
+    let error = line(alloc)
+        .expect(test, "memory")
+        .error(ErrorKind::InvalidValue, message)
+        .expect(test, "memory");
+    error.to_string(alloc).expect(test, "memory")
 }
 
-pub(crate) fn refuses_words_that_are_no_texts(
-    test: &impl Abort,
-    rt: &HostRuntime,
-) -> Result<(), Fail> {
+pub(crate) fn refuses_words_that_are_no_texts(test: &impl Abort, rt: &HostRuntime) {
     holds(
         test,
-        is_refused(rt, io::ErrorKind::OutOfMemory, 4, "fault 40 Memory\n")?,
+        is_refused(test, rt, io::ErrorKind::OutOfMemory, 4, "fault 40 Memory\n"),
         "memory",
     );
     holds(
         test,
-        is_refused(rt, io::ErrorKind::InvalidData, 2, NOT_TEXT)?,
+        is_refused(test, rt, io::ErrorKind::InvalidData, 2, NOT_TEXT),
         NOT_TEXT,
     );
-    same_text(test, said_by_clap(rt.alloc())?.as_str(), NOT_TEXT);
-    Ok(())
+    same_text(test, said_by_clap(test, rt.alloc()).as_str(), NOT_TEXT);
 }

@@ -4,7 +4,6 @@ use crate::{headers, inside, keyed, old, older, parts, plain};
 use sqlite::{Alter, Connection};
 use std::alloc::Global;
 use std::process::Abort;
-use std::test::Fail;
 
 /// What is done over a connection.
 #[derive(Clone, Copy)]
@@ -19,12 +18,7 @@ enum Run {
     Parts,
 }
 
-fn run_one<S: Alter>(
-    rt: &impl Abort,
-    alloc: Global,
-    conn: &mut Connection<S>,
-    run: Run,
-) -> Result<(), Fail> {
+fn run_one<S: Alter>(rt: &impl Abort, alloc: Global, conn: &mut Connection<S>, run: Run) {
     match run {
         Run::Fill => plain::fill(rt, alloc, conn),
         Run::DropAndLook => plain::drop_and_look(rt, conn),
@@ -38,23 +32,16 @@ fn run_one<S: Alter>(
 }
 
 // One after another.
-fn run_all<S: Alter>(
-    rt: &impl Abort,
-    alloc: Global,
-    conn: &mut Connection<S>,
-    runs: &[Run],
-) -> Result<(), Fail> {
+fn run_all<S: Alter>(rt: &impl Abort, alloc: Global, conn: &mut Connection<S>, runs: &[Run]) {
     for one in runs {
-        run_one(rt, alloc, conn, *one)?;
+        run_one(rt, alloc, conn, *one);
     }
-    Ok(())
 }
 
-fn over_memory(rt: &impl Abort, alloc: Global, runs: &[Run]) -> Result<(), Fail> {
-    let mut conn = Connection::open_in_memory(alloc)?;
-    let end = run_all(rt, alloc, &mut conn, runs);
+fn over_memory(rt: &impl Abort, alloc: Global, runs: &[Run]) {
+    let mut conn = Connection::open_in_memory(alloc).expect(rt, "a connection");
+    run_all(rt, alloc, &mut conn, runs);
     drop(conn);
-    end
 }
 
 // What is run in turn over one connection, each over one of its own.
@@ -69,9 +56,8 @@ static IN_MEMORY: [&[Run]; 7] = [
 ];
 
 #[test]
-fn statements_in_memory(rt: HostRuntime) -> Result<(), Fail> {
+fn statements_in_memory(rt: HostRuntime) {
     for runs in &IN_MEMORY {
-        over_memory(&rt, rt.alloc(), *runs)?;
+        over_memory(&rt, rt.alloc(), *runs);
     }
-    Ok(())
 }

@@ -1,11 +1,11 @@
 //! Which tables are recognised, and told from others, and which names are in use.
 
 use crate::checks::{holds, same_text};
-use sqlite::{Alter, Connection, Error};
+use crate::texts::raw;
+use sqlite::{Alter, Connection};
 use sqlite_schema::schema::Schema;
-use std::alloc::{AllocError, Global};
+use std::alloc::Global;
 use std::process::Abort;
-use std::test::Fail;
 use store_older_sql::{has_keyed_table, has_old_entry};
 use store_tables::{
     KeyedTable, StoreTable, has_room, has_table, is_name_used, is_own_index_name_used,
@@ -58,27 +58,23 @@ const VIEWS: &str =
 const NAMED: &str =
     "CREATE TABLE ore (a TEXT); CREATE INDEX gem ON ore (a); CREATE VIEW opal AS SELECT a FROM ore";
 
-// Runs the statements in turn.
-fn execute<S: Alter>(conn: &mut Connection<S>, statements: &[&str]) -> Result<(), Error> {
-    for statement in statements {
-        conn.execute_batch(*statement)?;
-    }
-    Ok(())
-}
-
+// Runs the statements in turn, and gives the schema that is there then.
 fn schema_after<S: Alter>(
+    rt: &impl Abort,
     alloc: Global,
     conn: &mut Connection<S>,
     statements: &[&str],
-) -> Result<Schema, Error> {
-    execute(conn, statements)?;
-    Ok(conn.schema().copy(alloc)?)
+) -> Schema {
+    for statement in statements {
+        raw(rt, conn, *statement);
+    }
+    conn.schema().copy(alloc).expect(rt, "memory")
 }
 
 // The schema after these statements.
-fn schema_of(alloc: Global, statements: &[&str]) -> Result<Schema, Error> {
-    let mut conn = Connection::open_in_memory(alloc)?;
-    let schema = schema_after(alloc, &mut conn, statements);
+fn schema_of(rt: &impl Abort, alloc: Global, statements: &[&str]) -> Schema {
+    let mut conn = Connection::open_in_memory(alloc).expect(rt, "a connection");
+    let schema = schema_after(rt, alloc, &mut conn, statements);
     drop(conn);
     schema
 }
@@ -100,25 +96,25 @@ fn had(schema: &Schema) -> [(bool, &'static str); 10] {
 }
 
 // Their names.
-fn names(alloc: Global, had: &[(bool, &'static str)]) -> Result<String, AllocError> {
+fn names(rt: &impl Abort, alloc: Global, had: &[(bool, &'static str)]) -> String {
     let mut text = String::new(alloc);
     for (is_had, name) in had {
         if *is_had {
             if !text.is_empty() {
-                text.push(' ')?;
+                text.push(' ').expect(rt, "memory");
             }
-            text.push_str(*name)?;
+            text.push_str(*name).expect(rt, "memory");
         }
     }
-    Ok(text)
+    text
 }
 
 // The names of what is had after these statements.
-fn told(alloc: Global, statements: &[&str]) -> Result<String, Fail> {
-    let schema = schema_of(alloc, statements)?;
-    let told = names(alloc, had(&schema).as_slice());
+fn told(rt: &impl Abort, alloc: Global, statements: &[&str]) -> String {
+    let schema = schema_of(rt, alloc, statements);
+    let told = names(rt, alloc, had(&schema).as_slice());
     drop(schema);
-    Ok(told?)
+    told
 }
 
 // Statements, and what is had then.
@@ -325,18 +321,31 @@ static CHANGED: [(&str, &str, &str, &str); 53] = [
     (WORD, "ord INTEGER NOT NULL", "ord INTEGER", "word"),
 ];
 
+// What is had after statements is what each of these says.
+fn compare_had(rt: &impl Abort, alloc: Global, rows: &[(&'static [&'static str], &'static str)]) {
+    for (statements, expected) in rows {
+        let found = told(rt, alloc, *statements);
+        same_text(rt, found.as_str(), *expected);
+    }
+}
+
+// The same where a part of a statement is another.
+fn compare_changed(
+    rt: &impl Abort,
+    alloc: Global,
+    rows: &[(&'static str, &'static str, &'static str, &'static str)],
+) {
+    for (statement, part, other, expected) in rows {
+        let changed = statement.replace(alloc, *part, *other).expect(rt, "memory");
+        let found = told(rt, alloc, &[changed.as_str()]);
+        same_text(rt, found.as_str(), *expected);
+    }
+}
+
 #[test]
-fn recognised(rt: HostRuntime) -> Result<(), Fail> {
-    for (statements, expected) in &HAD {
-        let found = told(rt.alloc(), *statements)?;
-        same_text(&rt, found.as_str(), *expected);
-    }
-    for (statement, part, other, expected) in &CHANGED {
-        let changed = statement.replace(rt.alloc(), *part, *other)?;
-        let found = told(rt.alloc(), &[changed.as_str()])?;
-        same_text(&rt, found.as_str(), *expected);
-    }
-    Ok(())
+fn recognised(rt: HostRuntime) {
+    compare_had(&rt, rt.alloc(), &HAD);
+    compare_changed(&rt, rt.alloc(), &CHANGED);
 }
 
 // What is asked of a schema.
@@ -355,25 +364,18 @@ enum Asked {
 }
 
 // Gives the last table the tree of the first that is made.
-fn share_tree(schema: &mut Schema) -> Result<(), AllocError> {
-    let first = match schema.tables.get(0) {
-        Some(first) => first.tree,
-        None => return Ok(()),
-    };
-    match schema.tables.pop() {
-        Some(mut last) => {
-            last.tree = first;
-            schema.tables.push(last)
-        }
-        None => Ok(()),
-    }
+fn share_tree(rt: &impl Abort, schema: &mut Schema) {
+    let first = schema.tables.get(0).expect(rt, "a table").tree;
+    let mut last = schema.tables.pop().expect(rt, "a table");
+    last.tree = first;
+    schema.tables.push(last).expect(rt, "memory");
 }
 
 // Whether the table is found, and whether it is found still when another has its tree.
-fn found_beside(schema: &mut Schema) -> Result<[bool; 2], AllocError> {
+fn found_beside(rt: &impl Abort, schema: &mut Schema) -> [bool; 2] {
     let alone = has_table(schema, StoreTable::Mark);
-    share_tree(schema)?;
-    Ok([alone, has_table(schema, StoreTable::Mark)])
+    share_tree(rt, schema);
+    [alone, has_table(schema, StoreTable::Mark)]
 }
 
 // Whether the counter's name is in use and whether the schema waits for it, and both once the counter is gone.
@@ -389,23 +391,23 @@ fn seen_counter(schema: &mut Schema) -> [bool; 4] {
     ]
 }
 
-fn answer(schema: &mut Schema, asked: Asked) -> Result<bool, Error> {
-    Ok(match asked {
+fn answer(rt: &impl Abort, schema: &mut Schema, asked: Asked) -> bool {
+    match asked {
         Asked::OwnName => is_own_name_used(schema),
         Asked::OwnNameReferred => is_own_name_referred(schema),
         Asked::OwnIndexName => is_own_index_name_used(schema),
         Asked::Waiting => lacks_counting_table(schema),
         Asked::Room => has_room(schema),
         Asked::Name(name) => is_name_used(schema, name.as_bytes()),
-        Asked::TreeShared => found_beside(schema)? == [true, false],
+        Asked::TreeShared => found_beside(rt, schema) == [true, false],
         Asked::CounterGone => seen_counter(schema) == [true, false, false, true],
-    })
+    }
 }
 
 // What is answered after these statements.
-fn ask(alloc: Global, statements: &[&str], asked: Asked) -> Result<bool, Error> {
-    let mut schema = schema_of(alloc, statements)?;
-    let answer = answer(&mut schema, asked);
+fn ask(rt: &impl Abort, alloc: Global, statements: &[&str], asked: Asked) -> bool {
+    let mut schema = schema_of(rt, alloc, statements);
+    let answer = answer(rt, &mut schema, asked);
     drop(schema);
     answer
 }
@@ -510,19 +512,17 @@ fn compare(
     first: &str,
     others: &[&str],
     expected: bool,
-) -> Result<(), Fail> {
+) {
     for more in others {
-        holds(rt, ask(alloc, &[first, *more], asked)? == expected, more);
+        holds(rt, ask(rt, alloc, &[first, *more], asked) == expected, more);
     }
-    Ok(())
 }
 
 #[test]
-fn answers_of_a_schema(rt: HostRuntime) -> Result<(), Fail> {
+fn answers_of_a_schema(rt: HostRuntime) {
     let alloc = rt.alloc();
     for (asked, first, yes, no) in &ANSWERS {
-        compare(&rt, alloc, *asked, *first, *yes, true)?;
-        compare(&rt, alloc, *asked, *first, *no, false)?;
+        compare(&rt, alloc, *asked, *first, *yes, true);
+        compare(&rt, alloc, *asked, *first, *no, false);
     }
-    Ok(())
 }

@@ -1,6 +1,5 @@
 //! The table of headers is made, headers are put in and read, and one is taken out.
 
-ghost use Rattle.std.specs.Prelude.{OnOk};
 ghost use Rattle.sqlite.specs.State.{HasCleanDisk};
 ghost use Rattle.sqlite.specs.Held.{state};
 ghost use Rattle.store_tables.specs.Effects.{HasApartRowids, WhileOpen, rows_of};
@@ -9,18 +8,16 @@ ghost use Rattle.store_sql.specs.HeaderTable.{header};
 
 use crate::checks::{holds, same_text};
 use crate::rest::rest;
-use crate::texts::told;
-use sqlite::{Alter, Connection, Error};
+use crate::texts::{told, told_read};
+use sqlite::{Alter, Connection};
 use std::alloc::Global;
 use std::process::Abort;
-use std::test::Fail;
 use store_sql::header_found::has_header_table;
 use store_sql::header_one::headers_numbered;
 use store_sql::header_records::StoredHeader;
 use store_sql::header_scan::read_headers_by_rowid;
 use store_sql::header_statements::{create_header_table, delete_header, insert_header};
 use store_sql::infos::infos_numbered;
-use store_sql::records::ReadError;
 use store_tables::commit::commit;
 use store_tables::transaction::OpenTransaction;
 use store_tables::{HeaderRecord, StoreTable, has_table, is_name_used, lacks_counting_table};
@@ -32,27 +29,28 @@ const SECOND: &str =
     "StoredHeader { rowid: 4, value: HeaderRecord { number: 4, owner: \"ore\", title: \"\", info: \"of\\nores\" } }";
 
 // Makes the table where its name is free.
-fn make<S: Alter>(conn: &mut Connection<S>) -> Result<(), Error>
-    ensures { HasCleanDisk (state S.Store conn.new) → OnOk result (HasApartRowids (rows_of (header 0).name (state S.Store conn.new).now)) }
+fn make<S: Alter>(rt: &impl Abort, conn: &mut Connection<S>)
+    ensures { HasCleanDisk (state S.Store conn.new) → HasApartRowids (rows_of (header 0).name (state S.Store conn.new).now) }
 {
     let schema = conn.schema();
-    if is_name_used(schema, b"edition") || lacks_counting_table(schema) || !conn.is_autocommit() {
-        return Err(Error::InvalidQuery);
-    }
+    holds(rt, !is_name_used(schema, b"edition"), "edition");
+    holds(rt, !lacks_counting_table(schema), "counting");
+    holds(rt, conn.is_autocommit(), "autocommit");
     let mut tx = conn.transaction();
-    create_header_table(&mut tx)?;
-    commit(tx)
+    create_header_table(&mut tx).expect(rt, "a table");
+    commit(tx).expect(rt, "a commit");
 }
 
 fn put<S: Alter, T: OpenTransaction<S>>(
+    rt: &impl Abort,
     tx: &mut T,
     number: i64,
     owner: &str,
     title: &str,
     info: &str,
-) -> Result<(), Error>
+)
     requires { WhileOpen (state S.Store (T.held tx.old)) (HasToRemove header) }
-    ensures { OnOk result (WhileOpen (state S.Store (T.held tx.new)) (HasToRemove header)) }
+    ensures { WhileOpen (state S.Store (T.held tx.new)) (HasToRemove header) }
 {
     let row = HeaderRecord {
         number,
@@ -60,98 +58,76 @@ fn put<S: Alter, T: OpenTransaction<S>>(
         title,
         info,
     };
-    insert_header(tx, &row)?;
-    Ok(())
+    insert_header(tx, &row).expect(rt, "a header");
 }
 
 // Puts three headers in, and takes one out.
-fn put_and_take<S: Alter, T: OpenTransaction<S>>(tx: &mut T) -> Result<usize, Error>
+fn put_and_take<S: Alter, T: OpenTransaction<S>>(rt: &impl Abort, tx: &mut T) -> usize
     requires { WhileOpen (state S.Store (T.held tx.old)) (HasToRemove header) }
 {
-    put(tx, 4, "ore", "", "of\nores")?;
-    put(tx, 2, "gem", "Gems", "gone")?;
-    put(tx, 1, "gem", "Gems", "")?;
-    delete_header(tx, 2)
+    put(rt, tx, 4, "ore", "", "of\nores");
+    put(rt, tx, 2, "gem", "Gems", "gone");
+    put(rt, tx, 1, "gem", "Gems", "");
+    delete_header(tx, 2).expect(rt, "a change")
 }
 
-fn change<S: Alter>(conn: &mut Connection<S>) -> Result<usize, Error>
+fn change<S: Alter>(rt: &impl Abort, conn: &mut Connection<S>) -> usize
     requires { HasCleanDisk (state S.Store conn.old) → HasApartRowids (rows_of (header 0).name (state S.Store conn.old).now) }
 {
-    if !has_header_table(conn.schema()) || !conn.is_autocommit() {
-        return Err(Error::InvalidQuery);
-    }
+    holds(rt, has_header_table(conn.schema()), "headers");
+    holds(rt, conn.is_autocommit(), "autocommit");
     let mut tx = conn.transaction();
-    let taken = put_and_take(&mut tx)?;
-    commit(tx)?;
-    Ok(taken)
+    let taken = put_and_take(rt, &mut tx);
+    commit(tx).expect(rt, "a commit");
+    taken
 }
 
-fn all<S: Alter>(alloc: Global, conn: &mut Connection<S>) -> Result<Vec<StoredHeader>, ReadError> {
-    if !has_header_table(conn.schema()) {
-        return Err(ReadError::Store(Error::InvalidQuery));
-    }
-    let mut rows = read_headers_by_rowid(conn)?;
-    let all = rest(alloc, &mut rows);
+fn all<S: Alter>(rt: &impl Abort, alloc: Global, conn: &mut Connection<S>) -> String {
+    holds(rt, has_header_table(conn.schema()), "headers");
+    let mut rows = read_headers_by_rowid(conn).expect(rt, "rows");
+    let all: Vec<StoredHeader> = rest(rt, alloc, &mut rows);
     drop(rows);
-    all
+    told(rt, alloc, all)
 }
 
-fn one<S: Alter>(
-    alloc: Global,
-    conn: &mut Connection<S>,
-    number: i64,
-) -> Result<Vec<StoredHeader>, ReadError> {
-    if !has_header_table(conn.schema()) {
-        return Err(ReadError::Store(Error::InvalidQuery));
-    }
-    headers_numbered(alloc, conn, number)
+fn one<S: Alter>(rt: &impl Abort, alloc: Global, conn: &mut Connection<S>, number: i64) -> String {
+    holds(rt, has_header_table(conn.schema()), "headers");
+    told_read(rt, alloc, headers_numbered(alloc, conn, number))
 }
 
-fn info<S: Alter>(
-    alloc: Global,
-    conn: &mut Connection<S>,
-    number: i64,
-) -> Result<Vec<String>, ReadError> {
-    if !has_header_table(conn.schema()) {
-        return Err(ReadError::Store(Error::InvalidQuery));
-    }
-    infos_numbered(alloc, conn, number)
+fn info<S: Alter>(rt: &impl Abort, alloc: Global, conn: &mut Connection<S>, number: i64) -> String {
+    holds(rt, has_header_table(conn.schema()), "headers");
+    told_read(rt, alloc, infos_numbered(alloc, conn, number))
 }
 
 // All headers by their rowids.
-fn look<S: Alter>(rt: &impl Abort, alloc: Global, conn: &mut Connection<S>) -> Result<(), Fail> {
-    let wanted = format!(in alloc; "[{FIRST}, {SECOND}]")?;
-    let found = told(alloc, all(alloc, conn))?;
+fn look<S: Alter>(rt: &impl Abort, alloc: Global, conn: &mut Connection<S>) {
+    let wanted = format!(in alloc; "[{FIRST}, {SECOND}]").expect(rt, "memory");
+    let found = all(rt, alloc, conn);
     same_text(rt, &found, &wanted);
-    Ok(())
 }
 
 // One header, and its info alone.
-fn look_at<S: Alter>(rt: &impl Abort, alloc: Global, conn: &mut Connection<S>) -> Result<(), Fail> {
-    let wanted = format!(in alloc; "[{SECOND}]")?;
-    let found = told(alloc, one(alloc, conn, 4))?;
+fn look_at<S: Alter>(rt: &impl Abort, alloc: Global, conn: &mut Connection<S>) {
+    let wanted = format!(in alloc; "[{SECOND}]").expect(rt, "memory");
+    let found = one(rt, alloc, conn, 4);
     same_text(rt, &found, &wanted);
-    let found = told(alloc, info(alloc, conn, 4))?;
+    let found = info(rt, alloc, conn, 4);
     same_text(rt, &found, "[\"of\\nores\"]");
-    let found = told(alloc, info(alloc, conn, 2))?;
+    let found = info(rt, alloc, conn, 2);
     same_text(rt, &found, "[]");
-    Ok(())
 }
 
 /// The table is made, changed and looked at.
-pub(crate) fn run<S: Alter>(
-    rt: &impl Abort,
-    alloc: Global,
-    conn: &mut Connection<S>,
-) -> Result<(), Fail> {
-    make(conn)?;
+pub(crate) fn run<S: Alter>(rt: &impl Abort, alloc: Global, conn: &mut Connection<S>) {
+    make(rt, conn);
     holds(
         rt,
         !has_table(conn.schema(), StoreTable::Edition),
         "edition",
     );
-    let taken = change(conn)?;
+    let taken = change(rt, conn);
     holds(rt, taken == 1, "taken");
-    look(rt, alloc, conn)?;
-    look_at(rt, alloc, conn)
+    look(rt, alloc, conn);
+    look_at(rt, alloc, conn);
 }

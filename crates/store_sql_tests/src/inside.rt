@@ -1,13 +1,11 @@
 //! The table `entry` as it is without keys, read inside a transaction.
 
-use crate::checks::same_text;
-use crate::texts::{raw, told};
-use sqlite::{Alter, Connection, Error};
+use crate::checks::{holds, same_text};
+use crate::texts::{raw, told_read};
+use sqlite::{Alter, Connection};
 use std::alloc::Global;
 use std::process::Abort;
-use std::test::Fail;
 use store_older_sql::{entries_inside, has_keyed_table};
-use store_sql::records::ReadError;
 use store_tables::{KeyedTable, StoreTable, has_table};
 
 const FOUND: &str =
@@ -18,33 +16,33 @@ const FOUND: &str =
 static READS: [(i64, &str); 2] = [(1, FOUND), (3, "[]")];
 
 fn told_of<S: Alter>(
+    rt: &impl Abort,
     alloc: Global,
     conn: &mut Connection<S>,
     edition: i64,
-) -> Result<String, ReadError> {
-    if !has_table(conn.schema(), StoreTable::Entry) || !conn.is_autocommit() {
-        return Err(ReadError::Store(Error::InvalidQuery));
-    }
+) -> String {
+    holds(rt, has_table(conn.schema(), StoreTable::Entry), "entry");
+    holds(rt, conn.is_autocommit(), "autocommit");
     let mut tx = conn.transaction();
-    let found = told(alloc, entries_inside(alloc, &mut tx, edition));
+    let found = told_read(rt, alloc, entries_inside(alloc, &mut tx, edition));
     drop(tx);
     found
 }
 
 /// The entries of an edition come in the order of their places.
-pub(crate) fn run<S: Alter>(
-    rt: &impl Abort,
-    alloc: Global,
-    conn: &mut Connection<S>,
-) -> Result<(), Fail> {
+pub(crate) fn run<S: Alter>(rt: &impl Abort, alloc: Global, conn: &mut Connection<S>) {
     raw(
+        rt,
         conn,
         "CREATE TABLE entry (edition INTEGER NOT NULL, ord INTEGER NOT NULL, headword TEXT NOT NULL, start INTEGER NOT NULL, length INTEGER NOT NULL, PRIMARY KEY (edition, ord)) STRICT; INSERT INTO entry VALUES (1, 2, 'opal', 0, 7), (2, 0, 'ore', 0, 1), (1, 0, '', 7, 0), (1, 1, 'gem', 7, 9)",
-    )?;
-    assert!(rt; !has_keyed_table(conn.schema(), KeyedTable::Entry));
+    );
+    holds(
+        rt,
+        !has_keyed_table(conn.schema(), KeyedTable::Entry),
+        "entry",
+    );
     for (edition, expected) in &READS {
-        let text = told_of(alloc, conn, *edition)?;
+        let text = told_of(rt, alloc, conn, *edition);
         same_text(rt, text.as_str(), *expected);
     }
-    Ok(())
 }

@@ -6,9 +6,7 @@ use crate::texts::{compare_numbers, raw};
 use sqlite::{Alter, Connection, Error, Rows};
 use std::alloc::Global;
 use std::process::Abort;
-use std::test::Fail;
 use store_older_sql::{drop_keyed_table, has_keyed_table, read_shown_by_rowid, read_shown_rows_of};
-use store_sql::records::ReadError;
 use store_tables::commit::commit;
 use store_tables::{KeyedEntry, KeyedTable, StoredRow, is_name_used};
 
@@ -42,12 +40,15 @@ static READS: [(Option<i64>, &str); 3] = [(None, ENTRIES), (Some(1), OF_FIRST), 
 
 // Begins to read entries.
 fn begin<'a, S: Alter>(
+    rt: &impl Abort,
     conn: &'a mut Connection<S>,
     edition: Option<i64>,
 ) -> Result<Rows<'a, S>, Error> {
-    if !has_keyed_table(conn.schema(), KeyedTable::Entry) {
-        return Err(Error::InvalidQuery);
-    }
+    holds(
+        rt,
+        has_keyed_table(conn.schema(), KeyedTable::Entry),
+        "entry",
+    );
     match edition {
         Some(number) => read_shown_rows_of(conn, number),
         None => read_shown_by_rowid(conn),
@@ -55,55 +56,49 @@ fn begin<'a, S: Alter>(
 }
 
 fn read<S: Alter>(
+    rt: &impl Abort,
     alloc: Global,
     conn: &mut Connection<S>,
     edition: Option<i64>,
-) -> Result<String, ReadError> {
-    let mut rows = begin(conn, edition)?;
-    let told = told_rest::<S, StoredRow<KeyedEntry<String, Vec<u8>>>>(alloc, &mut rows);
+) -> String {
+    let mut rows = begin(rt, conn, edition).expect(rt, "rows");
+    let told = told_rest::<S, StoredRow<KeyedEntry<String, Vec<u8>>>>(rt, alloc, &mut rows);
     drop(rows);
     told
 }
 
-fn drop_table<S: Alter>(conn: &mut Connection<S>, table: KeyedTable) -> Result<(), Error> {
-    if !has_keyed_table(conn.schema(), table) || !conn.is_autocommit() {
-        return Err(Error::InvalidQuery);
-    }
+fn drop_table<S: Alter>(rt: &impl Abort, conn: &mut Connection<S>, table: KeyedTable) {
+    holds(rt, has_keyed_table(conn.schema(), table), table.name());
+    holds(rt, conn.is_autocommit(), "autocommit");
     let mut tx = conn.transaction();
-    drop_keyed_table(&mut tx, table)?;
-    commit(tx)
+    drop_keyed_table(&mut tx, table).expect(rt, "a change");
+    commit(tx).expect(rt, "a commit");
 }
 
 // Drops each table, whose name is free then.
-fn drop_all<S: Alter>(rt: &impl Abort, conn: &mut Connection<S>) -> Result<(), Fail> {
+fn drop_all<S: Alter>(rt: &impl Abort, conn: &mut Connection<S>) {
     for table in &[KeyedTable::Gram, KeyedTable::Entry, KeyedTable::Word] {
-        drop_table(conn, *table)?;
+        drop_table(rt, conn, *table);
         holds(
             rt,
             !is_name_used(conn.schema(), table.name().as_bytes()),
             table.name(),
         );
     }
-    Ok(())
 }
 
 /// What is read of the entries. Each table goes with its indexes, and leaves the others.
-pub(crate) fn run<S: Alter>(
-    rt: &impl Abort,
-    alloc: Global,
-    conn: &mut Connection<S>,
-) -> Result<(), Fail> {
-    raw(conn, STORED)?;
+pub(crate) fn run<S: Alter>(rt: &impl Abort, alloc: Global, conn: &mut Connection<S>) {
+    raw(rt, conn, STORED);
     for (edition, expected) in &READS {
-        let text = read(alloc, conn, *edition)?;
+        let text = read(rt, alloc, conn, *edition);
         same_text(rt, text.as_str(), *expected);
     }
-    drop_all(rt, conn)?;
+    drop_all(rt, conn);
     holds(
         rt,
         !is_name_used(conn.schema(), b"dictcat_entry_key"),
         "the index",
     );
-    compare_numbers(conn, &[("SELECT count(*) FROM last", 2)])?;
-    Ok(())
+    compare_numbers(rt, conn, &[("SELECT count(*) FROM last", 2)]);
 }

@@ -1,14 +1,12 @@
 //! The entries of schemas 2 and 3, read row by row.
 
-use crate::checks::same_text;
+use crate::checks::{holds, same_text};
 use crate::rest::told_rest;
 use crate::texts::raw;
 use sqlite::{Alter, Connection, Error, Rows};
 use std::alloc::Global;
 use std::process::Abort;
-use std::test::Fail;
 use store_older_sql::{has_old_entry, read_old_by_rowid, read_old_rows_of};
-use store_sql::records::ReadError;
 use store_tables::{OldEntry, StoredRow};
 
 // What `.dump` of stock `sqlite3` writes of this table.
@@ -31,12 +29,11 @@ static READS: [(Option<i64>, &str); 3] = [(Some(0), "[]"), (Some(1), OPAL), (Non
 
 // Begins to read entries.
 fn begin<'a, S: Alter>(
+    rt: &impl Abort,
     conn: &'a mut Connection<S>,
     edition: Option<i64>,
 ) -> Result<Rows<'a, S>, Error> {
-    if !has_old_entry(conn.schema()) {
-        return Err(Error::InvalidQuery);
-    }
+    holds(rt, has_old_entry(conn.schema()), "entry");
     match edition {
         Some(number) => read_old_rows_of(conn, number),
         None => read_old_by_rowid(conn),
@@ -44,26 +41,22 @@ fn begin<'a, S: Alter>(
 }
 
 fn read<S: Alter>(
+    rt: &impl Abort,
     alloc: Global,
     conn: &mut Connection<S>,
     edition: Option<i64>,
-) -> Result<String, ReadError> {
-    let mut rows = begin(conn, edition)?;
-    let told = told_rest::<S, StoredRow<OldEntry<String, Vec<u8>>>>(alloc, &mut rows);
+) -> String {
+    let mut rows = begin(rt, conn, edition).expect(rt, "rows");
+    let told = told_rest::<S, StoredRow<OldEntry<String, Vec<u8>>>>(rt, alloc, &mut rows);
     drop(rows);
     told
 }
 
 /// What is read of the table, which is made first.
-pub(crate) fn run<S: Alter>(
-    rt: &impl Abort,
-    alloc: Global,
-    conn: &mut Connection<S>,
-) -> Result<(), Fail> {
-    raw(conn, STORED)?;
+pub(crate) fn run<S: Alter>(rt: &impl Abort, alloc: Global, conn: &mut Connection<S>) {
+    raw(rt, conn, STORED);
     for (edition, expected) in &READS {
-        let text = read(alloc, conn, *edition)?;
+        let text = read(rt, alloc, conn, *edition);
         same_text(rt, text.as_str(), *expected);
     }
-    Ok(())
 }

@@ -1,6 +1,5 @@
 //! The table of parts is made, parts are put in, and some are taken out.
 
-ghost use Rattle.std.specs.Prelude.{OnOk};
 ghost use Rattle.sqlite.specs.State.{HasCleanDisk};
 ghost use Rattle.sqlite.specs.Held.{state};
 ghost use Rattle.store_tables.specs.Effects.{HasApartRowids, WhileOpen, rows_of};
@@ -9,10 +8,9 @@ ghost use Rattle.store_sql.specs.PartTable.{part};
 
 use crate::checks::holds;
 use reads::look;
-use sqlite::{Alter, Connection, Error};
+use sqlite::{Alter, Connection};
 use std::alloc::Global;
 use std::process::Abort;
-use std::test::Fail;
 use store_sql::part_found::has_part_table;
 use store_sql::part_records::Part;
 use store_sql::part_statements::{create_part_table, delete_parts, delete_parts_from, insert_part};
@@ -23,30 +21,28 @@ use store_tables::{is_name_used, lacks_counting_table};
 mod reads;
 
 // Makes the table where its name is free.
-fn make<S: Alter>(conn: &mut Connection<S>) -> Result<(), Error>
-    ensures { HasCleanDisk (state S.Store conn.new) → OnOk result (HasApartRowids (rows_of (part 0).name (state S.Store conn.new).now)) }
+fn make<S: Alter>(rt: &impl Abort, conn: &mut Connection<S>)
+    ensures { HasCleanDisk (state S.Store conn.new) → HasApartRowids (rows_of (part 0).name (state S.Store conn.new).now) }
 {
     let schema = conn.schema();
-    if is_name_used(schema, b"dictcat_part")
-        || lacks_counting_table(schema)
-        || !conn.is_autocommit()
-    {
-        return Err(Error::InvalidQuery);
-    }
+    holds(rt, !is_name_used(schema, b"dictcat_part"), "parts");
+    holds(rt, !lacks_counting_table(schema), "counting");
+    holds(rt, conn.is_autocommit(), "autocommit");
     let mut tx = conn.transaction();
-    create_part_table(&mut tx)?;
-    commit(tx)
+    create_part_table(&mut tx).expect(rt, "a table");
+    commit(tx).expect(rt, "a commit");
 }
 
 fn put<S: Alter, T: OpenTransaction<S>>(
+    rt: &impl Abort,
     tx: &mut T,
     edition: i64,
     file: i64,
     number: i64,
     octets: &[u8],
-) -> Result<(), Error>
+)
     requires { WhileOpen (state S.Store (T.held tx.old)) (HasToRemove part) }
-    ensures { OnOk result (WhileOpen (state S.Store (T.held tx.new)) (HasToRemove part)) }
+    ensures { WhileOpen (state S.Store (T.held tx.new)) (HasToRemove part) }
 {
     let row = Part {
         edition,
@@ -54,60 +50,53 @@ fn put<S: Alter, T: OpenTransaction<S>>(
         number,
         octets,
     };
-    insert_part(tx, &row)?;
-    Ok(())
+    insert_part(tx, &row).expect(rt, "a part");
 }
 
-fn put_all<S: Alter, T: OpenTransaction<S>>(tx: &mut T) -> Result<(), Error>
+fn put_all<S: Alter, T: OpenTransaction<S>>(rt: &impl Abort, tx: &mut T)
     requires { WhileOpen (state S.Store (T.held tx.old)) (HasToRemove part) }
-    ensures { OnOk result (WhileOpen (state S.Store (T.held tx.new)) (HasToRemove part)) }
+    ensures { WhileOpen (state S.Store (T.held tx.new)) (HasToRemove part) }
 {
-    put(tx, 2, 1, 0, b"t")?;
-    put(tx, 1, 1, 1, b"b")?;
-    put(tx, 1, 1, 0, b"a")?;
-    put(tx, 1, 0, 0, b"i")?;
-    put(tx, 1, 1, 2, b"c")?;
-    put(tx, 3, 0, 0, b"x")
+    put(rt, tx, 2, 1, 0, b"t");
+    put(rt, tx, 1, 1, 1, b"b");
+    put(rt, tx, 1, 1, 0, b"a");
+    put(rt, tx, 1, 0, 0, b"i");
+    put(rt, tx, 1, 1, 2, b"c");
+    put(rt, tx, 3, 0, 0, b"x");
 }
 
 // Takes out the text of the first edition from its second part on.
-fn cut_off<S: Alter, T: OpenTransaction<S>>(tx: &mut T) -> Result<(), Error>
+fn cut_off<S: Alter, T: OpenTransaction<S>>(rt: &impl Abort, tx: &mut T)
     requires { WhileOpen (state S.Store (T.held tx.old)) (HasToRemove part) }
-    ensures { OnOk result (WhileOpen (state S.Store (T.held tx.new)) (HasToRemove part)) }
+    ensures { WhileOpen (state S.Store (T.held tx.new)) (HasToRemove part) }
 {
-    delete_parts_from(tx, 1, 1, 1)?;
-    Ok(())
+    delete_parts_from(tx, 1, 1, 1).expect(rt, "a change");
 }
 
 // Puts all in, and takes some out.
-fn put_and_take<S: Alter, T: OpenTransaction<S>>(tx: &mut T) -> Result<usize, Error>
+fn put_and_take<S: Alter, T: OpenTransaction<S>>(rt: &impl Abort, tx: &mut T) -> usize
     requires { WhileOpen (state S.Store (T.held tx.old)) (HasToRemove part) }
 {
-    put_all(tx)?;
-    cut_off(tx)?;
-    delete_parts(tx, 3)
+    put_all(rt, tx);
+    cut_off(rt, tx);
+    delete_parts(tx, 3).expect(rt, "a change")
 }
 
-fn change<S: Alter>(conn: &mut Connection<S>) -> Result<usize, Error>
+fn change<S: Alter>(rt: &impl Abort, conn: &mut Connection<S>) -> usize
     requires { HasCleanDisk (state S.Store conn.old) → HasApartRowids (rows_of (part 0).name (state S.Store conn.old).now) }
 {
-    if !has_part_table(conn.schema()) || !conn.is_autocommit() {
-        return Err(Error::InvalidQuery);
-    }
+    holds(rt, has_part_table(conn.schema()), "parts");
+    holds(rt, conn.is_autocommit(), "autocommit");
     let mut tx = conn.transaction();
-    let taken = put_and_take(&mut tx)?;
-    commit(tx)?;
-    Ok(taken)
+    let taken = put_and_take(rt, &mut tx);
+    commit(tx).expect(rt, "a commit");
+    taken
 }
 
 /// The table is made, changed and looked at.
-pub(crate) fn run<S: Alter>(
-    rt: &impl Abort,
-    alloc: Global,
-    conn: &mut Connection<S>,
-) -> Result<(), Fail> {
-    make(conn)?;
-    let taken = change(conn)?;
+pub(crate) fn run<S: Alter>(rt: &impl Abort, alloc: Global, conn: &mut Connection<S>) {
+    make(rt, conn);
+    let taken = change(rt, conn);
     holds(rt, taken == 1, "taken");
-    look(rt, alloc, conn)
+    look(rt, alloc, conn);
 }

@@ -4,12 +4,11 @@ use crate::checks::{holds, same_text};
 use crate::steps::{Step, over_memory};
 use crate::taken::{Counted, found, taken_between};
 use dict_catalogue::Command;
-use dict_desk::{Fault, Keeper, Lookup};
+use dict_desk::{Keeper, Lookup};
 use dict_index::{Edition, read_edition};
 use dict_match::Strategy;
 use std::alloc::{AllocError, Global};
 use std::process::Abort;
-use std::test::Fail;
 
 /// How many octets stand behind the title, the index, how many parts the text has, and its entries: a headword, where its body begins, and how long it is.
 /// The first is looked up first, and lies in each part.
@@ -112,31 +111,31 @@ fn letter(place: u32, size: u32) -> char {
     }
 }
 
-fn text_of(alloc: Global, size: u32) -> Result<String, AllocError> {
+fn text_of(rt: &impl Abort, alloc: Global, size: u32) -> String {
     let mut text = String::new(alloc);
-    text.push_str(TITLE)?;
+    text.push_str(TITLE).expect(rt, "memory");
     for place in 0..size {
-        text.push(letter(place, size))?;
+        text.push(letter(place, size)).expect(rt, "memory");
     }
-    Ok(text)
+    text
 }
 
-fn install_edition<K: Keeper>(desk: &mut K, name: &str, edition: &Edition) -> Result<(), Fault> {
-    let _kept = desk.apply(name, &Command::Install { name, edition })?;
-    Ok(())
+fn install_edition<K: Keeper>(rt: &impl Abort, desk: &mut K, name: &str, edition: &Edition) {
+    let command = Command::Install { name, edition };
+    let _kept = desk.apply(name, &command).expect(rt, "a reply");
 }
 
 /// Installs an edition of these two files.
 pub(crate) fn install<K: Keeper>(
+    rt: &impl Abort,
     alloc: Global,
     desk: &mut K,
     name: &str,
     index: &str,
     text: &[u8],
-) -> Result<(), Fail> {
-    let edition = read_edition(alloc, index.as_bytes(), text)?;
-    install_edition(desk, name, &edition)?;
-    Ok(())
+) {
+    let edition = read_edition(alloc, index.as_bytes(), text).expect(rt, "an edition");
+    install_edition(rt, desk, name, &edition);
 }
 
 // What is handed out for an entry is its headword and its body.
@@ -152,17 +151,16 @@ fn look<L: Lookup + Counted>(
     case: &Case,
     text: &str,
     rows: u64,
-) -> Result<(), Fail> {
+) {
     let before = desk.taken();
     for (headword, start, length) in case.3 {
-        let answer = found(alloc, desk, 1, Strategy::Exact, *headword, usize::MAX)?;
+        let answer = found(rt, alloc, desk, 1, Strategy::Exact, *headword, usize::MAX);
         let body = text.get(*start..start.wrapping_add(*length)).unwrap_or("");
-        let wanted = answer_of(alloc, *headword, body)?;
+        let wanted = answer_of(alloc, *headword, body).expect(rt, "memory");
         same_text(rt, answer.text.as_str(), wanted.as_str(), case.1);
     }
     let taken = taken_between(before, desk.taken());
     holds(rt, taken.unwrap_or(rows) == rows, case.1);
-    Ok(())
 }
 
 /// The text, which is installed first or was before, is handed out so. The first lookup of a desk reads each part once, and
@@ -173,20 +171,20 @@ pub(crate) fn look_around<K: Keeper + Counted>(
     desk: &mut K,
     case: &Case,
     is_first: bool,
-) -> Result<(), Fail> {
-    let text = text_of(alloc, case.0)?;
+) {
+    let text = text_of(rt, alloc, case.0);
     let text = text.as_str();
     if is_first {
-        install(alloc, desk, "lines", case.1, text.as_bytes())?;
+        install(rt, alloc, desk, "lines", case.1, text.as_bytes());
     }
     let entries = case.3.len() as u64;
     let all = entries.saturating_add(u64::from(case.2));
-    look(rt, alloc, desk, case, text, all)?;
-    look(rt, alloc, desk, case, text, entries)
+    look(rt, alloc, desk, case, text, all);
+    look(rt, alloc, desk, case, text, entries);
 }
 
 // The text is installed, and handed out so by this desk and by one that is opened behind it.
-fn goes_around(rt: &impl Abort, alloc: Global, case: Case) -> Result<(), Fail> {
+fn goes_around(rt: &impl Abort, alloc: Global, case: Case) {
     let steps = [
         Step::Around(case, true),
         Step::Around(case, false),
@@ -199,16 +197,15 @@ fn goes_around(rt: &impl Abort, alloc: Global, case: Case) -> Result<(), Fail> {
             i64::from(case.0).saturating_add(TITLE_LENGTH),
         ),
     ];
-    over_memory(rt, alloc, &steps)
+    over_memory(rt, alloc, &steps);
 }
 
 #[test]
-fn texts_go_around_parts(rt: HostRuntime) -> Result<(), Fail> {
+fn texts_go_around_parts(rt: HostRuntime) {
     let alloc = rt.alloc();
     for case in &CASES {
-        goes_around(&rt, alloc, *case)?;
+        goes_around(&rt, alloc, *case);
     }
-    Ok(())
 }
 
 /// The first letters of all headwords, how many lines an index has, of how many octets each, how many parts, and the headword of a line, which is the last, or
@@ -224,14 +221,17 @@ static LINES: [Lines; 5] = [
     Lines("headw", 1_100, 15, 2, "headw01092"),
 ];
 
-fn index_of(alloc: Global, lines: Lines) -> Result<String, AllocError> {
+fn index_of(rt: &impl Abort, alloc: Global, lines: Lines) -> String {
     let letters = lines.0;
     let mut index = String::new(alloc);
-    index.push_str("00-database-short\tA\ta\n")?;
+    index
+        .push_str("00-database-short\tA\ta\n")
+        .expect(rt, "memory");
     for number in 0..lines.1 {
-        index.push_str(format!(in alloc; "{letters}{number:05}\tA\ta\n")?.as_str())?;
+        let line = format!(in alloc; "{letters}{number:05}\tA\ta\n").expect(rt, "memory");
+        index.push_str(line.as_str()).expect(rt, "memory");
     }
-    Ok(index)
+    index
 }
 
 /// The index is installed, or a desk that is opened behind it finds the last line.
@@ -241,18 +241,18 @@ pub(crate) fn look_for_the_last<K: Keeper>(
     desk: &mut K,
     lines: Lines,
     is_first: bool,
-) -> Result<(), Fail> {
+) {
     if is_first {
-        let index = index_of(alloc, lines)?;
-        return install(alloc, desk, "lines", index.as_str(), TITLE.as_bytes());
+        let index = index_of(rt, alloc, lines);
+        install(rt, alloc, desk, "lines", index.as_str(), TITLE.as_bytes());
+    } else {
+        let answer = found(rt, alloc, desk, 1, Strategy::Exact, lines.4, usize::MAX);
+        let wanted = answer_of(alloc, lines.4, TITLE).expect(rt, "memory");
+        same_text(rt, answer.text.as_str(), wanted.as_str(), lines.4);
     }
-    let answer = found(alloc, desk, 1, Strategy::Exact, lines.4, usize::MAX)?;
-    let wanted = answer_of(alloc, lines.4, TITLE)?;
-    same_text(rt, answer.text.as_str(), wanted.as_str(), lines.4);
-    Ok(())
 }
 
-fn index_goes_around(rt: &impl Abort, alloc: Global, lines: Lines) -> Result<(), Fail> {
+fn index_goes_around(rt: &impl Abort, alloc: Global, lines: Lines) {
     let steps = [
         Step::Lines(lines, true),
         Step::Lines(lines, false),
@@ -265,14 +265,13 @@ fn index_goes_around(rt: &impl Abort, alloc: Global, lines: Lines) -> Result<(),
             i64::from(lines.1).saturating_mul(lines.2),
         ),
     ];
-    over_memory(rt, alloc, &steps)
+    over_memory(rt, alloc, &steps);
 }
 
 #[test]
-fn indexes_go_around_parts(rt: HostRuntime) -> Result<(), Fail> {
+fn indexes_go_around_parts(rt: HostRuntime) {
     let alloc = rt.alloc();
     for lines in &LINES {
-        index_goes_around(&rt, alloc, *lines)?;
+        index_goes_around(&rt, alloc, *lines);
     }
-    Ok(())
 }

@@ -3,7 +3,6 @@
 use crate::steps::{Row, Step, over_memory};
 use std::alloc::Global;
 use std::process::Abort;
-use std::test::Fail;
 use store_fixtures::{Asked, Source};
 
 // Commands by which several catalogues begin.
@@ -344,31 +343,30 @@ static SESSIONS: [&[Step]; 3] = [
 ];
 
 // Does the steps of each run in a new database of its own.
-fn over_each(rt: &impl Abort, alloc: Global, runs: &[&[Step]]) -> Result<(), Fail> {
+fn over_each(rt: &impl Abort, alloc: Global, runs: &[&[Step]]) {
     for steps in runs {
-        over_memory(rt, alloc, *steps)?;
+        over_memory(rt, alloc, *steps);
     }
-    Ok(())
 }
 
 #[test]
-fn commands_one_after_another(rt: HostRuntime) -> Result<(), Fail> {
-    over_each(&rt, rt.alloc(), &COMMANDS)
+fn commands_one_after_another(rt: HostRuntime) {
+    over_each(&rt, rt.alloc(), &COMMANDS);
 }
 
 #[test]
-fn tables_and_lookups(rt: HostRuntime) -> Result<(), Fail> {
-    over_each(&rt, rt.alloc(), &TABLES)
+fn tables_and_lookups(rt: HostRuntime) {
+    over_each(&rt, rt.alloc(), &TABLES);
 }
 
 #[test]
-fn sessions_over_a_database(rt: HostRuntime) -> Result<(), Fail> {
-    over_each(&rt, rt.alloc(), &SESSIONS)
+fn sessions_over_a_database(rt: HostRuntime) {
+    over_each(&rt, rt.alloc(), &SESSIONS);
 }
 
 static MANY: [Step; 2] = [Step::Make(&[]), Step::Many];
 
 #[test]
-fn lookups_in_many_entries(rt: HostRuntime) -> Result<(), Fail> {
-    over_memory(&rt, rt.alloc(), &MANY)
+fn lookups_in_many_entries(rt: HostRuntime) {
+    over_memory(&rt, rt.alloc(), &MANY);
 }

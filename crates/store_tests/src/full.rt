@@ -1,25 +1,23 @@
 //! A catalogue that is full.
 
-use crate::checks::same_text;
+use crate::checks::same_reply;
 use dict_catalogue::Command;
 use dict_desk::Keeper;
 use std::alloc::Global;
 use std::process::Abort;
-use std::test::Fail;
-use store_fixtures::{Asked, Editions, Source, told};
+use store_fixtures::{Asked, Editions, Source};
 
 // 63 lists of one database.
-fn put_lists<K: Keeper>(alloc: Global, desk: &mut K) -> Result<(), Fail> {
+fn put_lists<K: Keeper>(rt: &impl Abort, alloc: Global, desk: &mut K) {
     for place in 1..64u64 {
-        let name = format!(in alloc; "all{place}")?;
+        let name = format!(in alloc; "all{place}").expect(rt, "memory");
         let put = Command::PutVirtual {
             name: name.as_str(),
             title: "All",
             members: &["gem"],
         };
-        let _kept = desk.apply(name.as_str(), &put)?;
+        let _kept = desk.apply(name.as_str(), &put).expect(rt, "a reply");
     }
-    Ok(())
 }
 
 // A new name finds no place, and one that is there does.
@@ -34,16 +32,10 @@ static FULL: [(&str, Asked, &str); 3] = [
 ];
 
 /// Fills a catalogue of the one database `gem` up.
-pub(crate) fn fill<K: Keeper>(
-    rt: &impl Abort,
-    alloc: Global,
-    desk: &mut K,
-    editions: &Editions,
-) -> Result<(), Fail> {
-    put_lists(alloc, desk)?;
+pub(crate) fn fill<K: Keeper>(rt: &impl Abort, alloc: Global, desk: &mut K, editions: &Editions) {
+    put_lists(rt, alloc, desk);
     for (id, asked, wanted) in &FULL {
         let answer = desk.apply(*id, &asked.command(editions));
-        same_text(rt, told(alloc, &answer)?.as_str(), *wanted, id);
+        same_reply(rt, alloc, answer, *wanted, id);
     }
-    Ok(())
 }

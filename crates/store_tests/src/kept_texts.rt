@@ -7,7 +7,6 @@ use dict_desk::{Keeper, Lookup};
 use dict_match::Strategy;
 use std::alloc::Global;
 use std::process::Abort;
-use std::test::Fail;
 use store_fixtures::{Asked, Editions, Source, accept_all};
 
 /// Commands, and behind them lookups: the number of an edition, a headword, what is handed out, and how many rows the statements
@@ -87,15 +86,22 @@ fn look<L: Lookup + Counted>(
     alloc: Global,
     desk: &mut L,
     asked: &[(u64, &str, &str, u64)],
-) -> Result<(), Fail> {
+) {
     for (number, headword, wanted, rows) in asked {
         let before = desk.taken();
-        let answer = found(alloc, desk, *number, Strategy::Exact, *headword, usize::MAX)?;
+        let answer = found(
+            rt,
+            alloc,
+            desk,
+            *number,
+            Strategy::Exact,
+            *headword,
+            usize::MAX,
+        );
         same_text(rt, answer.text.as_str(), *wanted, *headword);
         let taken = taken_between(before, desk.taken());
         holds(rt, taken.unwrap_or(*rows) == *rows, *headword);
     }
-    Ok(())
 }
 
 /// Commands, and lookups behind each.
@@ -104,12 +110,11 @@ pub(crate) fn look_between<K: Keeper + Counted>(
     alloc: Global,
     desk: &mut K,
     editions: &Editions,
-) -> Result<(), Fail> {
+) {
     for case in &CASES {
-        accept_all(desk, editions, case.0)?;
-        look(rt, alloc, desk, case.1)?;
+        accept_all(desk, editions, case.0).expect(rt, "commands");
+        look(rt, alloc, desk, case.1);
     }
-    Ok(())
 }
 
 // What the last two editions answer to a desk that is opened again: it begins with no texts.
@@ -120,15 +125,11 @@ static ANEW: [(u64, &str, &str, u64); 3] = [
 ];
 
 /// Lookups of a desk that has no texts yet.
-pub(crate) fn look_anew<L: Lookup + Counted>(
-    rt: &impl Abort,
-    alloc: Global,
-    desk: &mut L,
-) -> Result<(), Fail> {
-    look(rt, alloc, desk, &ANEW)
+pub(crate) fn look_anew<L: Lookup + Counted>(rt: &impl Abort, alloc: Global, desk: &mut L) {
+    look(rt, alloc, desk, &ANEW);
 }
 
 #[test]
-fn texts_are_read_once(rt: HostRuntime) -> Result<(), Fail> {
-    over_memory(&rt, rt.alloc(), &[Step::Texts, Step::TextsAnew])
+fn texts_are_read_once(rt: HostRuntime) {
+    over_memory(&rt, rt.alloc(), &[Step::Texts, Step::TextsAnew]);
 }

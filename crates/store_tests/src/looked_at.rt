@@ -7,7 +7,6 @@ use dict_desk::Keeper;
 use dict_match::Strategy;
 use std::alloc::Global;
 use std::process::Abort;
-use std::test::Fail;
 use store_fixtures::{Asked, Editions, Source, accept_all};
 
 static BEFORE: [(&str, Asked); 2] = [
@@ -173,17 +172,17 @@ pub(crate) fn look_around<K: Keeper + Counted>(
     alloc: Global,
     desk: &mut K,
     editions: &Editions,
-) -> Result<(), Fail> {
-    accept_all(desk, editions, &BEFORE)?;
-    look(rt, alloc, desk, &CASES)?;
-    accept_all(desk, editions, &BETWEEN)?;
-    look(rt, alloc, desk, &BEHIND)?;
-    accept_all(desk, editions, &GONE)?;
-    look(rt, alloc, desk, &AFTER)
+) {
+    accept_all(desk, editions, &BEFORE).expect(rt, "commands");
+    look(rt, alloc, desk, &CASES);
+    accept_all(desk, editions, &BETWEEN).expect(rt, "commands");
+    look(rt, alloc, desk, &BEHIND);
+    accept_all(desk, editions, &GONE).expect(rt, "commands");
+    look(rt, alloc, desk, &AFTER);
 }
 
 // Over tables and over lists.
 #[test]
-fn each_lookup_looks_at_what_it_selects(rt: HostRuntime) -> Result<(), Fail> {
-    over_memory(&rt, rt.alloc(), &[Step::Select])
+fn each_lookup_looks_at_what_it_selects(rt: HostRuntime) {
+    over_memory(&rt, rt.alloc(), &[Step::Select]);
 }

@@ -1,11 +1,10 @@
 //! What readers ask of a desk.
 use crate::checks::{holds, same_text};
 use crate::taken::{Counted, taken_between};
-use dict_desk::{Fault, Lookup, What};
+use dict_desk::{Lookup, What};
 use dict_match::{Key, Strategy, key_of};
 use std::alloc::Global;
 use std::process::Abort;
-use std::test::Fail;
 use store_fixtures::Rows;
 
 /// What is asked of an edition: the entries that are found, what is shown of them, and how many they are; or one of these, with a sink that takes so many rows.
@@ -463,60 +462,73 @@ pub(crate) static CASES: [Case; 66] = [
 
 // What is found, and shown, and how many they are.
 fn told_all<L: Lookup>(
+    rt: &impl Abort,
     alloc: Global,
     desk: &mut L,
     number: u64,
     strategy: Strategy,
     query: &Key,
-) -> Result<String, Fault> {
+) -> String {
     let mut rows = Rows::new(alloc, usize::MAX);
-    desk.find(number, strategy, query, What::Entries, &mut rows)?;
-    rows.text.push(';')?;
-    desk.find(number, strategy, query, What::Headwords, &mut rows)?;
-    let entries = desk.count(number, strategy, query, What::Entries)?;
-    let texts = desk.count(number, strategy, query, What::Headwords)?;
+    desk.find(number, strategy, query, What::Entries, &mut rows)
+        .expect(rt, "entries");
+    rows.text.push(';').expect(rt, "memory");
+    desk.find(number, strategy, query, What::Headwords, &mut rows)
+        .expect(rt, "headwords");
+    let entries = desk
+        .count(number, strategy, query, What::Entries)
+        .expect(rt, "a count");
+    let texts = desk
+        .count(number, strategy, query, What::Headwords)
+        .expect(rt, "a count");
+    let counts = format!(in alloc; ";{entries} {texts}").expect(rt, "memory");
+    rows.text.push_str(counts.as_str()).expect(rt, "memory");
     rows.text
-        .push_str(format!(in alloc; ";{entries} {texts}")?.as_str())?;
-    Ok(rows.text)
 }
 
 fn told_count<L: Lookup>(
+    rt: &impl Abort,
     alloc: Global,
     desk: &mut L,
     case: &Case,
     query: &Key,
     what: What,
-) -> Result<String, Fault> {
-    let count = desk.count(case.0, case.2, query, what)?;
-    Ok(format!(in alloc; "{count}")?)
+) -> String {
+    let count = desk
+        .count(case.0, case.2, query, what)
+        .expect(rt, "a count");
+    format!(in alloc; "{count}").expect(rt, "memory")
 }
 
 // The rows that are handed out, and how they end.
 fn told_rows<L: Lookup>(
+    rt: &impl Abort,
     alloc: Global,
     desk: &mut L,
     case: &Case,
     query: &Key,
     most: usize,
-) -> Result<String, Fault> {
+) -> String {
     let mut rows = Rows::new(alloc, most);
     let end = match case.1 {
-        Question::Info(_) => desk.info(case.0, &mut rows)?,
-        Question::Heads(_) => desk.find(case.0, case.2, query, What::Headwords, &mut rows)?,
-        _ => desk.find(case.0, case.2, query, What::Entries, &mut rows)?,
+        Question::Info(_) => desk.info(case.0, &mut rows),
+        Question::Heads(_) => desk.find(case.0, case.2, query, What::Headwords, &mut rows),
+        _ => desk.find(case.0, case.2, query, What::Entries, &mut rows),
     };
-    rows.text.push_str(format!(in alloc; " {end:?}")?.as_str())?;
-    Ok(rows.text)
+    let end = end.expect(rt, "rows");
+    let shown = format!(in alloc; " {end:?}").expect(rt, "memory");
+    rows.text.push_str(shown.as_str()).expect(rt, "memory");
+    rows.text
 }
 
-fn answer<L: Lookup>(alloc: Global, desk: &mut L, case: &Case) -> Result<String, Fault> {
-    let query = key_of(alloc, case.3)?;
+fn answer<L: Lookup>(rt: &impl Abort, alloc: Global, desk: &mut L, case: &Case) -> String {
+    let query = key_of(alloc, case.3).expect(rt, "memory");
     match case.1 {
-        Question::All => told_all(alloc, desk, case.0, case.2, &query),
-        Question::Entries => told_count(alloc, desk, case, &query, What::Entries),
-        Question::Headwords => told_count(alloc, desk, case, &query, What::Headwords),
+        Question::All => told_all(rt, alloc, desk, case.0, case.2, &query),
+        Question::Entries => told_count(rt, alloc, desk, case, &query, What::Entries),
+        Question::Headwords => told_count(rt, alloc, desk, case, &query, What::Headwords),
         Question::Found(most) | Question::Heads(most) | Question::Info(most) => {
-            told_rows(alloc, desk, case, &query, most)
+            told_rows(rt, alloc, desk, case, &query, most)
         }
     }
 }
@@ -527,13 +539,12 @@ pub(crate) fn look<L: Lookup + Counted>(
     alloc: Global,
     desk: &mut L,
     cases: &[Case],
-) -> Result<(), Fail> {
+) {
     for case in cases {
         let before = desk.taken();
-        let found = answer(alloc, desk, case)?;
+        let found = answer(rt, alloc, desk, case);
         same_text(rt, found.as_str(), case.4, case.3);
         let taken = taken_between(before, desk.taken());
         holds(rt, taken.unwrap_or(case.5) == case.5, case.3);
     }
-    Ok(())
 }

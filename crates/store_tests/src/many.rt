@@ -6,18 +6,20 @@ use crate::taken::{Counted, found, taken_between};
 use dict_desk::Keeper;
 use dict_fixtures::GEM_TEXT;
 use dict_match::Strategy;
-use std::alloc::{AllocError, Global};
+use std::alloc::Global;
 use std::process::Abort;
-use std::test::Fail;
 
 // Headwords from `w00001` on, all of one body.
-fn index_of_many(alloc: Global) -> Result<String, AllocError> {
+fn index_of_many(rt: &impl Abort, alloc: Global) -> String {
     let mut index = String::new(alloc);
-    index.push_str("00-database-short\tA\tZ\n")?;
+    index
+        .push_str("00-database-short\tA\tZ\n")
+        .expect(rt, "memory");
     for number in 1..65_536u32 {
-        index.push_str(format!(in alloc; "w{number:05}\tZ\tP\n")?.as_str())?;
+        let line = format!(in alloc; "w{number:05}\tZ\tP\n").expect(rt, "memory");
+        index.push_str(line.as_str()).expect(rt, "memory");
     }
-    Ok(index)
+    index
 }
 
 /// By a strategy, a text and a sink that takes so many rows: how many it is handed, and how many entries are looked at, and rows read, at most.
@@ -35,25 +37,15 @@ static CASES: [Case; 6] = [
 ];
 
 /// Installs the edition, as the first of its catalogue, and looks it up.
-pub(crate) fn look<K: Keeper + Counted>(
-    rt: &impl Abort,
-    alloc: Global,
-    desk: &mut K,
-) -> Result<(), Fail> {
-    install(
-        alloc,
-        desk,
-        "many",
-        index_of_many(alloc)?.as_str(),
-        GEM_TEXT,
-    )?;
+pub(crate) fn look<K: Keeper + Counted>(rt: &impl Abort, alloc: Global, desk: &mut K) {
+    let index = index_of_many(rt, alloc);
+    install(rt, alloc, desk, "many", index.as_str(), GEM_TEXT);
     for case in &CASES {
         let before = desk.taken();
-        let rows = found(alloc, desk, 1, case.0, case.1, case.2)?;
+        let rows = found(rt, alloc, desk, 1, case.0, case.1, case.2);
         let handed = case.2.saturating_sub(rows.left);
         let taken = taken_between(before, desk.taken()).unwrap_or(case.4);
         let is_so = handed == case.3 && handed as u64 <= taken && taken <= case.4;
         holds(rt, is_so, case.1);
     }
-    Ok(())
 }

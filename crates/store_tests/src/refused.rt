@@ -4,7 +4,6 @@ use crate::steps::{Row, Step, over_memory};
 use dict_desk::Fault;
 use std::alloc::Global;
 use std::process::Abort;
-use std::test::Fail;
 use store_fixtures::{Asked, PLAIN, SHARED};
 
 // Each of these takes a name, or refers to one, that a store needs.
@@ -260,14 +259,15 @@ pub(crate) fn refuse_each(
     first: &[Step],
     is_new: bool,
     rows: &[(&'static str, Fault)],
-) -> Result<(), Fail> {
+) {
     for (statement, fault) in rows {
-        let mut steps = first.to_vec(alloc)?;
-        steps.push(Step::Batch(*statement))?;
-        steps.push(Step::Refuse(is_new, *fault, *statement))?;
-        over_memory(rt, alloc, steps.as_slice())?;
+        let mut steps = first.to_vec(alloc).expect(rt, "memory");
+        steps.push(Step::Batch(*statement)).expect(rt, "memory");
+        steps
+            .push(Step::Refuse(is_new, *fault, *statement))
+            .expect(rt, "memory");
+        over_memory(rt, alloc, steps.as_slice());
     }
-    Ok(())
 }
 
 // The list of both is retired.
@@ -304,11 +304,11 @@ static TWICE: [Step; 3] = [
 ];
 
 #[test]
-fn nothing_changes(rt: HostRuntime) -> Result<(), Fail> {
+fn nothing_changes(rt: HostRuntime) {
     let alloc = rt.alloc();
-    over_memory(&rt, alloc, &TWICE)?;
-    over_memory(&rt, alloc, &BESIDE)?;
-    refuse_each(&rt, alloc, &[], true, IN_USE)?;
-    refuse_each(&rt, alloc, &[Step::Make(CATALOGUE)], false, STATEMENTS)?;
-    refuse_each(&rt, alloc, FIRST, false, OLDER)
+    over_memory(&rt, alloc, &TWICE);
+    over_memory(&rt, alloc, &BESIDE);
+    refuse_each(&rt, alloc, &[], true, IN_USE);
+    refuse_each(&rt, alloc, &[Step::Make(CATALOGUE)], false, STATEMENTS);
+    refuse_each(&rt, alloc, FIRST, false, OLDER);
 }

@@ -4,9 +4,8 @@ use dict_desk::{Fault, Lookup};
 use dict_proto::{LimitedSink, OverRead};
 use dict_session::{Session, SessionEnd, Step};
 use sqlite::{Alter, Connection};
-use std::alloc::{AllocError, Global};
+use std::alloc::Global;
 use std::process::Abort;
-use std::test::Fail;
 use store_desk::session_over;
 
 const BANNER: &str = "220 dict.example.org dictcat ready <7@dict.example.org>\r\n";
@@ -38,47 +37,39 @@ fn is_told(writer: &LimitedSink, end: &str, wanted: &str) -> bool {
     wanted.strip_prefix(text) == Some(end)
 }
 
-/// A session with this input writes this behind its banner, and how it ended.
+/// A session with this input writes this behind its banner, and how it ended. The connection is handed back.
 pub(crate) fn speak<S: Alter + Drop>(
     rt: &impl Abort,
     alloc: Global,
     conn: Connection<S>,
     input: &str,
     wanted: &str,
-) -> (Connection<S>, Result<(), Fail>) {
-    let mut writer = match LimitedSink::new(alloc, 10_000) {
-        Ok(writer) => writer,
-        Err(_) => return (conn, Err(Fail::new("no memory"))),
-    };
+) -> Connection<S> {
+    let mut writer = LimitedSink::new(alloc, 10_000).expect(rt, "memory");
     let (conn, end) = spoken(alloc, conn, input, &mut writer);
     holds(rt, is_told(&writer, end, wanted), input);
-    (conn, Ok(()))
+    conn
 }
 
 const DEFINED: &str =
     "150 1 definitions retrieved\r\n151 \"opal\" gem \"Gems\"\r\nopal\r\n  a stone\r\n.\r\n250 ok\r\n";
 
 // What a session comes to that is sent one line, and what it writes into a sink with this room.
-fn told_with_room<L: Lookup>(
-    alloc: Global,
-    desk: &mut L,
-    room: usize,
-) -> Result<String, AllocError> {
-    let mut sink = LimitedSink::new(alloc, room)?;
-    let mut session = Session::new(alloc, "dict.example.org", 7)?;
+fn told_with_room<L: Lookup>(rt: &impl Abort, alloc: Global, desk: &mut L, room: usize) -> String {
+    let mut sink = LimitedSink::new(alloc, room).expect(rt, "memory");
+    let mut session = Session::new(alloc, "dict.example.org", 7).expect(rt, "memory");
     let step = session.feed(alloc, b"DEFINE gem OPAL\r\n", desk, &mut sink);
     let taken = str::from_utf8(sink.taken()).unwrap_or("not UTF-8");
-    format!(in alloc; "{step:?} {taken}")
+    format!(in alloc; "{step:?} {taken}").expect(rt, "memory")
 }
 
 /// A client that takes fewer octets than the answer has is sent its first ones; and one that takes all, all.
-pub(crate) fn cut<L: Lookup>(rt: &impl Abort, alloc: Global, desk: &mut L) -> Result<(), Fail> {
+pub(crate) fn cut<L: Lookup>(rt: &impl Abort, alloc: Global, desk: &mut L) {
     for room in 0..=80usize {
         let step = if room < 80 { Step::Broken } else { Step::More };
         let front = DEFINED.get(..room).unwrap_or("no front");
-        let wanted = format!(in alloc; "{step:?} {front}")?;
-        let found = told_with_room(alloc, desk, room)?;
+        let wanted = format!(in alloc; "{step:?} {front}").expect(rt, "memory");
+        let found = told_with_room(rt, alloc, desk, room);
         same_text(rt, found.as_str(), wanted.as_str(), "a client");
     }
-    Ok(())
 }

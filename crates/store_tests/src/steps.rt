@@ -1,16 +1,15 @@
 //! What is done in one database, step after step, and over lists beside it: both answer and show the same.
 
-use crate::checks::{holds, same_text};
-use crate::tables::{dumped, has_numbers};
+use crate::checks::{holds, same_reply, same_text};
+use crate::tables::{dumped, same_numbers};
 use crate::taken::Counted;
 use crate::{borders, full, kept_texts, looked_at, looking, many, spoken};
-use dict_desk::{Fault, Keeper, PlainDesk, Preparer};
+use dict_desk::{Fault, Keeper, Lookup, PlainDesk, Preparer};
 use sqlite::{Alter, Connection};
 use std::alloc::Global;
 use std::process::Abort;
-use std::test::Fail;
 use store_desk::Desk;
-use store_fixtures::{Asked, Editions, batched, listed, read_editions, shown, told};
+use store_fixtures::{Asked, Editions, batched, listed, read_editions, shown};
 
 /// An id, a command, its answer, and the items after it.
 #[derive(Clone, Copy)]
@@ -79,6 +78,12 @@ pub(crate) fn desk_over<S: Alter + Drop>(
     }
 }
 
+/// The items that a desk lists.
+pub(crate) fn items_of<L: Lookup>(rt: &impl Abort, alloc: Global, desk: &mut L) -> String {
+    let summary = desk.summary().expect(rt, "a summary");
+    listed(alloc, summary).expect(rt, "memory")
+}
+
 /// The commands are answered so.
 pub(crate) fn play<K: Keeper>(
     rt: &impl Abort,
@@ -86,24 +91,22 @@ pub(crate) fn play<K: Keeper>(
     desk: &mut K,
     editions: &Editions,
     rows: &[Row],
-) -> Result<(), Fail> {
+) {
     for Row(id, asked, wanted, after) in rows {
         let answer = desk.apply(id, &asked.command(editions));
-        same_text(rt, told(alloc, &answer)?.as_str(), *wanted, id);
-        let items = listed(alloc, desk.summary()?)?;
+        same_reply(rt, alloc, answer, *wanted, id);
+        let items = items_of(rt, alloc, desk);
         same_text(rt, items.as_str(), *after, id);
     }
-    Ok(())
 }
 
 // Does what commands left to be done later.
-fn settle<K: Preparer>(desk: &mut K) -> Result<(), Fault> {
+fn settle<K: Preparer>(rt: &impl Abort, desk: &mut K) {
     for _ in 0..64 {
-        if !desk.prepare()? {
-            return Ok(());
+        if !desk.prepare().expect(rt, "a part") {
+            break;
         }
     }
-    Ok(())
 }
 
 // What a step does over a desk, and what the desk shows then.
@@ -113,26 +116,26 @@ fn act<K: Preparer + Counted>(
     desk: &mut K,
     editions: &Editions,
     step: &Step,
-) -> Result<String, Fail> {
+) -> String {
     match step {
         Step::Made(rows) | Step::Make(rows) | Step::Open(rows) | Step::Keep(rows) => {
-            play(rt, alloc, desk, editions, *rows)?
+            play(rt, alloc, desk, editions, *rows)
         }
-        Step::Settle => settle(desk)?,
-        Step::Look => looking::look(rt, alloc, desk, &looking::CASES)?,
-        Step::Fill => full::fill(rt, alloc, desk, editions)?,
-        Step::Many => many::look(rt, alloc, desk)?,
-        Step::Cut => spoken::cut(rt, alloc, desk)?,
-        Step::Select => looked_at::look_around(rt, alloc, desk, editions)?,
-        Step::Texts => kept_texts::look_between(rt, alloc, desk, editions)?,
-        Step::TextsAnew => kept_texts::look_anew(rt, alloc, desk)?,
-        Step::Around(case, is_first) => borders::look_around(rt, alloc, desk, case, *is_first)?,
+        Step::Settle => settle(rt, desk),
+        Step::Look => looking::look(rt, alloc, desk, &looking::CASES),
+        Step::Fill => full::fill(rt, alloc, desk, editions),
+        Step::Many => many::look(rt, alloc, desk),
+        Step::Cut => spoken::cut(rt, alloc, desk),
+        Step::Select => looked_at::look_around(rt, alloc, desk, editions),
+        Step::Texts => kept_texts::look_between(rt, alloc, desk, editions),
+        Step::TextsAnew => kept_texts::look_anew(rt, alloc, desk),
+        Step::Around(case, is_first) => borders::look_around(rt, alloc, desk, case, *is_first),
         Step::Lines(lines, is_first) => {
-            borders::look_for_the_last(rt, alloc, desk, *lines, *is_first)?
+            borders::look_for_the_last(rt, alloc, desk, *lines, *is_first)
         }
         _ => {}
     }
-    Ok(shown(alloc, desk)?)
+    shown(alloc, desk).expect(rt, "a catalogue")
 }
 
 fn name_of(step: &Step) -> &'static str {
@@ -163,15 +166,14 @@ fn on_desk<S: Alter + Drop>(
     editions: &Editions,
     step: &Step,
     wanted: &str,
-) -> Result<(), Fail> {
+) {
     holds(rt, !matches!(step, Step::Refuse(_, _, _)), name_of(step));
-    let found = act(rt, alloc, desk, editions, step)?;
+    let found = act(rt, alloc, desk, editions, step);
     same_text(rt, found.as_str(), wanted, "both desks");
     holds(rt, desk.audit().is_ok(), "a sound desk");
-    Ok(())
 }
 
-// A step over the desk of the database.
+// A step over the desk of the database, or the fault by which there is none is the one that is due.
 fn over_desk<S: Alter + Drop>(
     rt: &impl Abort,
     alloc: Global,
@@ -179,20 +181,18 @@ fn over_desk<S: Alter + Drop>(
     editions: &Editions,
     step: &Step,
     wanted: &str,
-) -> (Connection<S>, Result<(), Fail>) {
+) -> Connection<S> {
     match desk_over(alloc, conn, is_made(step)) {
         Ok(desk) => {
             let mut desk = desk;
-            let end = on_desk(rt, alloc, &mut desk, editions, step, wanted);
-            (desk.into_connection(), end)
+            on_desk(rt, alloc, &mut desk, editions, step, wanted);
+            desk.into_connection()
         }
-        Err((conn, fault)) => match step {
-            Step::Refuse(_, due, _) if *due == fault => (conn, Ok(())),
-            _ => {
-                holds(rt, false, name_of(step));
-                (conn, Err(Fail::new("no desk")))
-            }
-        },
+        Err((conn, fault)) => {
+            let is_due = matches!(step, Step::Refuse(_, due, _) if *due == fault);
+            holds(rt, is_due, name_of(step));
+            conn
+        }
     }
 }
 
@@ -204,32 +204,23 @@ fn beside_all_rows<S: Alter + Drop>(
     editions: &Editions,
     step: &Step,
     wanted: &str,
-) -> (Connection<S>, Result<(), Fail>) {
+) -> Connection<S> {
     let mut conn = conn;
-    let before = dumped(alloc, &mut conn);
-    let (conn, end) = over_desk(rt, alloc, conn, editions, step, wanted);
-    let mut conn = conn;
-    let is_same = match (before, dumped(alloc, &mut conn)) {
-        (Ok(before), Ok(after)) => before.as_str() == after.as_str(),
-        _ => false,
-    };
-    holds(rt, is_same, "all rows");
-    (conn, end)
+    let before = dumped(rt, alloc, &mut conn);
+    let mut conn = over_desk(rt, alloc, conn, editions, step, wanted);
+    let after = dumped(rt, alloc, &mut conn);
+    holds(rt, before.as_str() == after.as_str(), "all rows");
+    conn
 }
 
 // A step over the tables alone.
-fn over_tables<S: Alter>(
-    rt: &impl Abort,
-    conn: &mut Connection<S>,
-    step: &Step,
-) -> Result<(), Fail> {
+fn over_tables<S: Alter>(rt: &impl Abort, conn: &mut Connection<S>, step: &Step) {
     match step {
-        Step::Batch(text) => batched(conn, &[*text])?,
-        Step::Numbers(wanted) => holds(rt, has_numbers(conn, *wanted)?, "numbers"),
-        Step::Number(text, count) => holds(rt, has_numbers(conn, &[(*text, *count)])?, *text),
+        Step::Batch(text) => batched(conn, &[*text]).expect(rt, "statements"),
+        Step::Numbers(wanted) => same_numbers(rt, conn, *wanted),
+        Step::Number(text, count) => same_numbers(rt, conn, &[(*text, *count)]),
         _ => {}
     }
-    Ok(())
 }
 
 fn done<S: Alter + Drop>(
@@ -239,12 +230,12 @@ fn done<S: Alter + Drop>(
     editions: &Editions,
     step: &Step,
     wanted: &str,
-) -> (Connection<S>, Result<(), Fail>) {
+) -> Connection<S> {
     match step {
         Step::Batch(_) | Step::Numbers(_) | Step::Number(_, _) | Step::Made(_) => {
             let mut conn = conn;
-            let end = over_tables(rt, &mut conn, step);
-            (conn, end)
+            over_tables(rt, &mut conn, step);
+            conn
         }
         Step::Speak(input, output) => spoken::speak(rt, alloc, conn, *input, *output),
         Step::Keep(_) | Step::Refuse(_, _, _) => {
@@ -255,26 +246,18 @@ fn done<S: Alter + Drop>(
 }
 
 // Each step is begun with the connection that the last one left.
-fn run<S: Alter + Drop>(
-    rt: &impl Abort,
-    alloc: Global,
-    conn: Connection<S>,
-    steps: &[Step],
-) -> Result<(), Fail> {
-    let editions = read_editions(alloc)?;
+fn run<S: Alter + Drop>(rt: &impl Abort, alloc: Global, conn: Connection<S>, steps: &[Step]) {
+    let editions = read_editions(alloc).expect(rt, "editions");
     let mut plain = PlainDesk::new(alloc);
     let mut conn = conn;
     for step in steps {
-        let wanted = act(rt, alloc, &mut plain, &editions, step)?;
-        let (next, end) = done(rt, alloc, conn, &editions, step, wanted.as_str());
-        conn = next;
-        end?;
+        let wanted = act(rt, alloc, &mut plain, &editions, step);
+        conn = done(rt, alloc, conn, &editions, step, wanted.as_str());
     }
-    Ok(())
 }
 
 /// Does the steps in a new database.
-pub(crate) fn over_memory(rt: &impl Abort, alloc: Global, steps: &[Step]) -> Result<(), Fail> {
-    let conn = Connection::open_in_memory(alloc)?;
-    run(rt, alloc, conn, steps)
+pub(crate) fn over_memory(rt: &impl Abort, alloc: Global, steps: &[Step]) {
+    let conn = Connection::open_in_memory(alloc).expect(rt, "a database");
+    run(rt, alloc, conn, steps);
 }

@@ -1,20 +1,21 @@
 //! The rows of the tables of a database.
 
-use sqlite::{Alter, Connection, Error};
-use std::alloc::{AllocError, Global};
+use crate::checks::holds;
+use sqlite::{Alter, Connection};
+use std::alloc::Global;
+use std::process::Abort;
 
-/// Whether each selection gives its number.
-pub(crate) fn has_numbers<S: Alter>(
+/// Each selection gives its number.
+pub(crate) fn same_numbers<S: Alter>(
+    rt: &impl Abort,
     conn: &mut Connection<S>,
     wanted: &[(&str, i64)],
-) -> Result<bool, Error> {
+) {
     for (text, count) in wanted {
-        let found: i64 = conn.query_row(*text, &[])?.get(0)?;
-        if found != *count {
-            return Ok(false);
-        }
+        let row = conn.query_row(*text, &[]).expect(rt, "a row");
+        let found: i64 = row.get(0).expect(rt, "a number");
+        holds(rt, found == *count, *text);
     }
-    Ok(true)
 }
 
 // All rows of the tables, those of older schemas among them.
@@ -32,16 +33,14 @@ static TABLES: [&str; 10] = [
 ];
 
 /// The rows of all tables that are there, as text.
-pub(crate) fn dumped<S: Alter>(
-    alloc: Global,
-    conn: &mut Connection<S>,
-) -> Result<String, AllocError> {
+pub(crate) fn dumped<S: Alter>(rt: &impl Abort, alloc: Global, conn: &mut Connection<S>) -> String {
     let mut text = String::new(alloc);
     for table in &TABLES {
         if let Ok(rows) = conn.query_all(table, &[]) {
-            text.push_str(format!(in alloc; "{rows:?}")?.as_str())?;
+            let shown = format!(in alloc; "{rows:?}").expect(rt, "memory");
+            text.push_str(shown.as_str()).expect(rt, "memory");
         }
-        text.push(';')?;
+        text.push(';').expect(rt, "memory");
     }
-    Ok(text)
+    text
 }

@@ -1,30 +1,28 @@
 //! What is found in an edition, and how many rows the statements hand over for it.
 
-use dict_desk::{Fault, Lookup, PlainDesk, What};
+use dict_desk::{Lookup, PlainDesk, What};
 use dict_match::{Strategy, key_of};
 use sqlite::Alter;
 use std::alloc::Global;
+use std::process::Abort;
 use store_desk::Desk;
 use store_fixtures::Rows;
 
 /// What is found in an edition, up to so many rows.
 pub(crate) fn found<L: Lookup>(
+    rt: &impl Abort,
     alloc: Global,
     desk: &mut L,
     number: u64,
     strategy: Strategy,
     text: &str,
     most: usize,
-) -> Result<Rows, Fault> {
+) -> Rows {
+    let query = key_of(alloc, text).expect(rt, "memory");
     let mut rows = Rows::new(alloc, most);
-    desk.find(
-        number,
-        strategy,
-        &key_of(alloc, text)?,
-        What::Entries,
-        &mut rows,
-    )?;
-    Ok(rows)
+    desk.find(number, strategy, &query, What::Entries, &mut rows)
+        .expect(rt, "rows");
+    rows
 }
 
 /// A desk that may tell how many rows its statements have handed over.

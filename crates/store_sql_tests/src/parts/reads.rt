@@ -1,17 +1,15 @@
 //! What is read of parts: all, in the order of their rowids, those of a file, and one.
 
-use crate::checks::same_text;
+use crate::checks::{holds, same_text};
 use crate::rest::rest;
-use crate::texts::told;
+use crate::texts::{told, told_read};
 use sqlite::{Alter, Connection, Error, Rows};
 use std::alloc::Global;
 use std::process::Abort;
-use std::test::Fail;
 use store_sql::part_found::has_part_table;
 use store_sql::part_one::parts_numbered;
 use store_sql::part_records::StoredPart;
 use store_sql::part_scan::{read_parts_by_rowid, read_parts_of};
-use store_sql::records::ReadError;
 
 // What is read.
 #[derive(Clone, Copy)]
@@ -41,13 +39,12 @@ static READS: [(Wanted, &str); 5] = [
 ];
 
 // Begins to read more than one.
-fn begin<S: Alter>(
-    conn: &mut Connection<S>,
+fn begin<'a, S: Alter>(
+    rt: &impl Abort,
+    conn: &'a mut Connection<S>,
     file: Option<(i64, i64)>,
-) -> Result<Rows<'_, S>, Error> {
-    if !has_part_table(conn.schema()) {
-        return Err(Error::InvalidQuery);
-    }
+) -> Result<Rows<'a, S>, Error> {
+    holds(rt, has_part_table(conn.schema()), "parts");
     match file {
         Some((edition, number)) => read_parts_of(conn, edition, number),
         None => read_parts_by_rowid(conn),
@@ -55,50 +52,51 @@ fn begin<S: Alter>(
 }
 
 fn some<S: Alter>(
+    rt: &impl Abort,
     alloc: Global,
     conn: &mut Connection<S>,
     file: Option<(i64, i64)>,
-) -> Result<Vec<StoredPart>, ReadError> {
-    let mut rows = begin(conn, file)?;
-    let all = rest(alloc, &mut rows);
+) -> String {
+    let mut rows = begin(rt, conn, file).expect(rt, "rows");
+    let all: Vec<StoredPart> = rest(rt, alloc, &mut rows);
     drop(rows);
-    all
+    told(rt, alloc, all)
 }
 
 fn one<S: Alter>(
+    rt: &impl Abort,
     alloc: Global,
     conn: &mut Connection<S>,
     edition: i64,
     file: i64,
     number: i64,
-) -> Result<Vec<StoredPart>, ReadError> {
-    if !has_part_table(conn.schema()) {
-        return Err(ReadError::Store(Error::InvalidQuery));
-    }
-    parts_numbered(alloc, conn, edition, file, number)
+) -> String {
+    holds(rt, has_part_table(conn.schema()), "parts");
+    told_read(
+        rt,
+        alloc,
+        parts_numbered(alloc, conn, edition, file, number),
+    )
 }
 
+// What is wanted, as text.
 fn found<S: Alter>(
+    rt: &impl Abort,
     alloc: Global,
     conn: &mut Connection<S>,
     wanted: Wanted,
-) -> Result<Vec<StoredPart>, ReadError> {
+) -> String {
     match wanted {
-        Wanted::ByRowid => some(alloc, conn, None),
-        Wanted::Of(edition, file) => some(alloc, conn, Some((edition, file))),
-        Wanted::One(edition, file, number) => one(alloc, conn, edition, file, number),
+        Wanted::ByRowid => some(rt, alloc, conn, None),
+        Wanted::Of(edition, file) => some(rt, alloc, conn, Some((edition, file))),
+        Wanted::One(edition, file, number) => one(rt, alloc, conn, edition, file, number),
     }
 }
 
 /// Each reading gives what it is to give.
-pub(crate) fn look<S: Alter>(
-    rt: &impl Abort,
-    alloc: Global,
-    conn: &mut Connection<S>,
-) -> Result<(), Fail> {
+pub(crate) fn look<S: Alter>(rt: &impl Abort, alloc: Global, conn: &mut Connection<S>) {
     for (wanted, text) in &READS {
-        let all = told(alloc, found(alloc, conn, *wanted))?;
+        let all = found(rt, alloc, conn, *wanted);
         same_text(rt, &all, *text);
     }
-    Ok(())
 }

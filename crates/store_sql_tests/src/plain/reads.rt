@@ -1,12 +1,11 @@
 //! What is read of each table.
 
-use crate::checks::same_text;
+use crate::checks::{holds, same_text};
 use crate::rest::told_rest;
-use crate::texts::told;
+use crate::texts::told_read;
 use sqlite::{Alter, Connection, Error, Rows};
 use std::alloc::Global;
 use std::process::Abort;
-use std::test::Fail;
 use store_sql::read::{editions_numbered, items, kept_replies_of, members};
 use store_sql::records::{EditionNumber, ReadError};
 use store_sql::stream::{
@@ -86,26 +85,24 @@ static READS: [(Wanted, &str); 11] = [
 ];
 
 // The text of the kept replies behind the first, which is refused where a mark is asked for.
-fn told_past_a_fault<S: Alter>(alloc: Global, rows: &mut Rows<'_, S>) -> Result<String, ReadError> {
+fn told_past_a_fault<S: Alter>(rt: &impl Abort, alloc: Global, rows: &mut Rows<'_, S>) -> String {
     let next: Result<Option<StoredRow<Mark<String>>>, ReadError> = next_record(rows);
     let is_refused = matches!(&next, Err(ReadError::NoRecord));
     drop(next);
-    if is_refused {
-        told_rest::<S, StoredRow<KeptRecord<String>>>(alloc, rows)
-    } else {
-        Err(ReadError::Store(Error::InvalidQuery))
-    }
+    holds(rt, is_refused, "another record");
+    told_rest::<S, StoredRow<KeptRecord<String>>>(rt, alloc, rows)
 }
 
-fn begin<S: Alter>(conn: &mut Connection<S>, stream: Stream) -> Result<Rows<'_, S>, Error> {
+fn begin<'a, S: Alter>(
+    rt: &impl Abort,
+    conn: &'a mut Connection<S>,
+    stream: Stream,
+) -> Result<Rows<'a, S>, Error> {
     let schema = conn.schema();
-    if !has_table(schema, StoreTable::Mark)
-        || !has_table(schema, StoreTable::Edition)
-        || !has_table(schema, StoreTable::Entry)
-        || !has_table(schema, StoreTable::Kept)
-    {
-        return Err(Error::InvalidQuery);
-    }
+    holds(rt, has_table(schema, StoreTable::Mark), "mark");
+    holds(rt, has_table(schema, StoreTable::Edition), "edition");
+    holds(rt, has_table(schema, StoreTable::Entry), "entry");
+    holds(rt, has_table(schema, StoreTable::Kept), "kept");
     match stream {
         Stream::Marks => read_by_rowid(conn, StoreTable::Mark),
         Stream::EditionNumbers => read_edition_numbers(conn),
@@ -115,62 +112,61 @@ fn begin<S: Alter>(conn: &mut Connection<S>, stream: Stream) -> Result<Rows<'_, 
 }
 
 fn told_of<S: Alter>(
+    rt: &impl Abort,
     alloc: Global,
     rows: &mut Rows<'_, S>,
     stream: Stream,
-) -> Result<String, ReadError> {
+) -> String {
     match stream {
-        Stream::Marks => told_rest::<S, StoredRow<Mark<String>>>(alloc, rows),
-        Stream::EditionNumbers => told_rest::<S, StoredRow<EditionNumber>>(alloc, rows),
-        Stream::EntriesOf(_) => told_rest::<S, StoredRow<EntryRecord<String>>>(alloc, rows),
-        Stream::KeptReplies => told_rest::<S, StoredRow<KeptRecord<String>>>(alloc, rows),
-        Stream::KeptPastAFault => told_past_a_fault(alloc, rows),
+        Stream::Marks => told_rest::<S, StoredRow<Mark<String>>>(rt, alloc, rows),
+        Stream::EditionNumbers => told_rest::<S, StoredRow<EditionNumber>>(rt, alloc, rows),
+        Stream::EntriesOf(_) => told_rest::<S, StoredRow<EntryRecord<String>>>(rt, alloc, rows),
+        Stream::KeptReplies => told_rest::<S, StoredRow<KeptRecord<String>>>(rt, alloc, rows),
+        Stream::KeptPastAFault => told_past_a_fault(rt, alloc, rows),
     }
 }
 
 fn read_stream<S: Alter>(
+    rt: &impl Abort,
     alloc: Global,
     conn: &mut Connection<S>,
     stream: Stream,
-) -> Result<String, ReadError> {
-    let mut rows = begin(conn, stream)?;
-    let told = told_of(alloc, &mut rows, stream);
+) -> String {
+    let mut rows = begin(rt, conn, stream).expect(rt, "rows");
+    let told = told_of(rt, alloc, &mut rows, stream);
     drop(rows);
     told
 }
 
 // What is wanted, as text.
 fn read<S: Alter>(
+    rt: &impl Abort,
     alloc: Global,
     conn: &mut Connection<S>,
     wanted: Wanted,
-) -> Result<String, ReadError> {
+) -> String {
     let schema = conn.schema();
-    if !has_table(schema, StoreTable::Item)
-        || !has_table(schema, StoreTable::Member)
-        || !has_table(schema, StoreTable::Edition)
-        || !has_table(schema, StoreTable::Kept)
-    {
-        return Err(ReadError::Store(Error::InvalidQuery));
-    }
+    holds(rt, has_table(schema, StoreTable::Item), "item");
+    holds(rt, has_table(schema, StoreTable::Member), "member");
+    holds(rt, has_table(schema, StoreTable::Edition), "edition");
+    holds(rt, has_table(schema, StoreTable::Kept), "kept");
     match wanted {
-        Wanted::Items => told(alloc, items(alloc, conn)),
-        Wanted::Members => told(alloc, members(alloc, conn)),
-        Wanted::EditionsNumbered(number) => told(alloc, editions_numbered(alloc, conn, number)),
-        Wanted::KeptRepliesOf(id) => told(alloc, kept_replies_of(alloc, conn, id)),
-        Wanted::Streamed(stream) => read_stream(alloc, conn, stream),
+        Wanted::Items => told_read(rt, alloc, items(alloc, conn)),
+        Wanted::Members => told_read(rt, alloc, members(alloc, conn)),
+        Wanted::EditionsNumbered(number) => told_read(
+            rt,
+            alloc,
+            editions_numbered(alloc, conn, number),
+        ),
+        Wanted::KeptRepliesOf(id) => told_read(rt, alloc, kept_replies_of(alloc, conn, id)),
+        Wanted::Streamed(stream) => read_stream(rt, alloc, conn, stream),
     }
 }
 
 /// What each table has. A row that is asked for as another record is refused, and those behind it are read.
-pub(crate) fn look<S: Alter>(
-    rt: &impl Abort,
-    alloc: Global,
-    conn: &mut Connection<S>,
-) -> Result<(), Fail> {
+pub(crate) fn look<S: Alter>(rt: &impl Abort, alloc: Global, conn: &mut Connection<S>) {
     for (wanted, expected) in &READS {
-        let text = read(alloc, conn, *wanted)?;
+        let text = read(rt, alloc, conn, *wanted);
         same_text(rt, text.as_str(), *expected);
     }
-    Ok(())
 }

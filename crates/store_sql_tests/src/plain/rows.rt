@@ -4,7 +4,10 @@ ghost use Rattle.store_tables.specs.Tables.{table_of};
 ghost use Rattle.sqlite.specs.Held.{state};
 ghost use Rattle.store_tables.specs.Effects.{Has, WhileOpen};
 
+use crate::checks::holds;
 use sqlite::{Alter, Connection, Error};
+use sqlite_schema::schema::Schema;
+use std::process::Abort;
 use store_older_sql::drop_table;
 use store_sql::insert::{insert_item, insert_kept, insert_mark, insert_member};
 use store_tables::commit::commit;
@@ -52,30 +55,36 @@ static ROWS: [Row; 10] = [
 ];
 
 // Makes the table where its name is free.
-fn make<S: Alter>(conn: &mut Connection<S>, table: StoreTable) -> Result<(), Error> {
+fn make<S: Alter>(rt: &impl Abort, conn: &mut Connection<S>, table: StoreTable) {
     let schema = conn.schema();
-    if is_name_used(schema, table.name().as_bytes())
-        || lacks_counting_table(schema)
-        || !conn.is_autocommit()
-    {
-        return Err(Error::InvalidQuery);
-    }
+    holds(
+        rt,
+        !is_name_used(schema, table.name().as_bytes()),
+        table.name(),
+    );
+    holds(rt, !lacks_counting_table(schema), "counting");
+    holds(rt, conn.is_autocommit(), "autocommit");
     let mut tx = conn.transaction();
-    match create_table(&mut tx, table) {
-        Ok(_) => commit(tx),
-        Err(error) => {
-            drop(tx);
-            Err(error)
-        }
-    }
+    create_table(&mut tx, table).expect(rt, "a table");
+    commit(tx).expect(rt, "a commit");
 }
 
 /// Makes all tables, where their names are free.
-pub(crate) fn make_all<S: Alter>(conn: &mut Connection<S>) -> Result<(), Error> {
+pub(crate) fn make_all<S: Alter>(rt: &impl Abort, conn: &mut Connection<S>) {
     for table in &TABLES {
-        make(conn, *table)?;
+        make(rt, conn, *table);
     }
-    Ok(())
+}
+
+/// The names of all tables are in use.
+pub(crate) fn are_made(rt: &impl Abort, schema: &Schema) {
+    for table in &TABLES {
+        holds(
+            rt,
+            is_name_used(schema, table.name().as_bytes()),
+            table.name(),
+        );
+    }
 }
 
 // Inserts a row into its table, if it is one of those that have a statement for it.
@@ -146,32 +155,26 @@ fn act<S: Alter, T: OpenTransaction<S>>(
 }
 
 fn change<S: Alter>(
+    rt: &impl Abort,
     conn: &mut Connection<S>,
     table: StoreTable,
     row: Option<&Row>,
-) -> Result<(), Error> {
-    if !has_table(conn.schema(), table) || !conn.is_autocommit() {
-        return Err(Error::InvalidQuery);
-    }
+) {
+    holds(rt, has_table(conn.schema(), table), table.name());
+    holds(rt, conn.is_autocommit(), "autocommit");
     let mut tx = conn.transaction();
-    match act(&mut tx, table, row) {
-        Ok(_) => commit(tx),
-        Err(error) => {
-            drop(tx);
-            Err(error)
-        }
-    }
+    act(&mut tx, table, row).expect(rt, "a change");
+    commit(tx).expect(rt, "a commit");
 }
 
 /// Puts all rows in.
-pub(crate) fn put_all<S: Alter>(conn: &mut Connection<S>) -> Result<(), Error> {
+pub(crate) fn put_all<S: Alter>(rt: &impl Abort, conn: &mut Connection<S>) {
     for row in &ROWS {
-        change(conn, row.0, Some(row))?;
+        change(rt, conn, row.0, Some(row));
     }
-    Ok(())
 }
 
 /// Drops the table of kept replies.
-pub(crate) fn drop_kept<S: Alter>(conn: &mut Connection<S>) -> Result<(), Error> {
-    change(conn, StoreTable::Kept, None)
+pub(crate) fn drop_kept<S: Alter>(rt: &impl Abort, conn: &mut Connection<S>) {
+    change(rt, conn, StoreTable::Kept, None);
 }

@@ -3,6 +3,7 @@ use Rattle.sqlite.specs.State.{HasCleanDisk}
 use Rattle.sqlite.specs.Held.{state}
 use Rattle.store_tables.proofs.Callers.{still_has, apart_removed}
 use Rattle.store_sql.specs.PartTable.{part}
+use Rattle.store_sql_tests.proofs.CommitLemmas.{at_ok}
 use Rattle.store_sql_tests.proofs.parts.cut_off.Goals as goal
 
 pub returns : goal.returns
@@ -10,6 +11,6 @@ returns g c clean open' =
     let old = state g.S.Store (g.T.OpenTransaction.held c.args.tx.now) in
     let new = state g.S.Store (g.T.OpenTransaction.held c.delete_parts_from.new.tx) in
     let start : HasCleanDisk old = omega (arith, c.delete_parts_from.ensures.survives.clean, clean) in
-    let removed = c.in_ok-delete_parts_from.ensures.removed clean in
+    let removed = at_ok _ _ _ c.expect.ensures (c.delete_parts_from.ensures.removed clean) in
     let had = c.requires start removed.1.was_open in
     record { has = still_has part old.now new.now removed.0.schema had.has; apart = apart_removed (codes "dictcat_part") _ old.now new.now removed.0 had.apart }
