@@ -1,21 +1,23 @@
 // The two files of an edition, put in as parts.
 ghost use Rattle.std.specs.Prelude.{◌≡◌, ◌≤◌, ◌<◌, [], codes, length, map, true, slice_index_or, IfErr, OnOk};
+ghost use Rattle.sqlite.specs.Held.{state};
 ghost use Rattle.sqlite.specs.State.{HasCleanDisk, KeepsCommit, Survives};
 ghost use Rattle.store_rows.specs.Parts.{parts_of};
 ghost use Rattle.store_sql.specs.PartRecords.{lent_part, part_row};
 ghost use Rattle.store_sql.specs.PartTable.{part as part_table};
 ghost use Rattle.store_tables.specs.Added.{AreAdded};
-ghost use Rattle.store_tables.specs.Effects.{Has, WhileOpen, seen};
+ghost use Rattle.store_tables.specs.Effects.{Has, WhileOpen};
 ghost use Rattle.store_sql.specs.declared.records.ReadError.TheVariants.{Store};
 ghost use Rattle.store_holdings.specs.Files.{part_at};
 ghost use Rattle.store_migration.specs.Failing.{MigrationFailsInside};
 ghost use Rattle.store_migration.specs.FailurePlaces.{Putting};
 ghost use Rattle.store_migration.specs.Written.{parts_in};
 
-use sqlite::{Alter, Error, Transaction};
+use sqlite::{Alter, Error};
 use store_rows::{PART_SIZE, part};
 use store_sql::part_records::Part;
 use store_sql::part_statements::insert_part;
+use store_tables::transaction::OpenTransaction;
 
 // An index has file 0 of its edition, and a text file 1.
 const INDEX: i64 = 0;
@@ -79,17 +81,17 @@ impl<'a> EditionFiles<'a> {
 }
 
 /// Puts the parts of both files in.
-pub(crate) fn put_files<S: Alter>(
-    tx: &mut Transaction<'_, S>,
+pub(crate) fn put_files<S: Alter, T: OpenTransaction<S>>(
+    tx: &mut T,
     files: &EditionFiles<'_>,
 ) -> Result<(), Error>
-    requires { WhileOpen (seen S.Store tx.old) (Has part_table) }
-    ensures same_reference { tx.new.conn.ghost_name ≡ tx.old.conn.ghost_name }
-    ensures added { HasCleanDisk (seen S.Store tx.new) → OnOk result (AreAdded (codes "dictcat_part") (map part_row (parts_in files.now)) (seen S.Store tx.old).now (seen S.Store tx.new).now) }
-    ensures inside { HasCleanDisk (seen S.Store tx.new) → OnOk result ((seen S.Store tx.old).in_transaction ≡ true → (seen S.Store tx.new).in_transaction ≡ true) }
-    ensures failed { HasCleanDisk (seen S.Store tx.new) → IfErr result (λ e. MigrationFailsInside S.Store (Putting (codes "dictcat_part") (map part_row (parts_in files.now))) tx.old.conn.now tx.new.conn.now (Store e)) }
-    ensures keeps { HasCleanDisk (seen S.Store tx.new) → KeepsCommit (seen S.Store tx.old) (seen S.Store tx.new) }
-    ensures survives { Survives (seen S.Store tx.old) (seen S.Store tx.new) (λ _. ⊥) }
+    requires { WhileOpen (state S.Store (T.held tx.old)) (Has part_table) }
+    ensures same_reference { T.reference tx.new ≡ T.reference tx.old }
+    ensures added { HasCleanDisk (state S.Store (T.held tx.new)) → OnOk result (AreAdded (codes "dictcat_part") (map part_row (parts_in files.now)) (state S.Store (T.held tx.old)).now (state S.Store (T.held tx.new)).now) }
+    ensures inside { HasCleanDisk (state S.Store (T.held tx.new)) → OnOk result ((state S.Store (T.held tx.old)).in_transaction ≡ true → (state S.Store (T.held tx.new)).in_transaction ≡ true) }
+    ensures failed { HasCleanDisk (state S.Store (T.held tx.new)) → IfErr result (λ e. MigrationFailsInside S.Store (Putting (codes "dictcat_part") (map part_row (parts_in files.now))) (T.held tx.old) (T.held tx.new) (Store e)) }
+    ensures keeps { HasCleanDisk (state S.Store (T.held tx.new)) → KeepsCommit (state S.Store (T.held tx.old)) (state S.Store (T.held tx.new)) }
+    ensures survives { Survives (state S.Store (T.held tx.old)) (state S.Store (T.held tx.new)) (λ _. ⊥) }
 {
     let count = files.part_count();
     'each: for place in 0..count {

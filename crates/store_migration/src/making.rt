@@ -4,7 +4,7 @@ ghost use Rattle.sqlite.specs.Effect.{IsDatabase};
 ghost use Rattle.sqlite.specs.State.{HasCleanDisk, IsLive, KeepsCommit, Survives};
 ghost use Rattle.sqlite.specs.Held.{state};
 ghost use Rattle.store_tables.specs.Creates.{AreApart, IsReady, MadeInTurn};
-ghost use Rattle.store_tables.specs.Effects.{WhileOpen, seen};
+ghost use Rattle.store_tables.specs.Effects.{WhileOpen};
 ghost use Rattle.store_sql.specs.Turns.{DoneInTurn, FailedInTurn};
 ghost use Rattle.store_sql.specs.Statements as sql;
 ghost use Rattle.store_sql.specs.Statements.{make};
@@ -18,7 +18,7 @@ ghost use Rattle.store_holdings.specs.Committed.{IsTreesOf};
 ghost use Rattle.store_migration.specs.Spared.{SparesOthers};
 
 use dict_desk::Fault;
-use sqlite::{Alter, Connection, Error, Transaction};
+use sqlite::{Alter, Connection, Error};
 use store_holdings::{fault_of, has_place};
 use store_rows::{KNOWN_VERSION, mark_row};
 use store_sql::header_statements::create_header_table;
@@ -27,17 +27,21 @@ use store_sql::part_statements::create_part_table;
 use store_tables::StoreTable;
 use store_tables::commit::commit;
 use store_tables::create::create_table;
+use store_tables::transaction::OpenTransaction;
 
 // Makes these tables, one after the other.
-fn make_each<S: Alter>(tx: &mut Transaction<'_, S>, tables: &[StoreTable]) -> Result<(), Error>
+fn make_each<S: Alter, T: OpenTransaction<S>>(
+    tx: &mut T,
+    tables: &[StoreTable],
+) -> Result<(), Error>
     requires apart { AreApart tables.now }
-    requires ready { WhileOpen (seen S.Store tx.old) IsReady }
-    ensures same_reference { tx.new.conn.ghost_name ≡ tx.old.conn.ghost_name }
-    ensures made { HasCleanDisk (seen S.Store tx.new) → OnOk result (MadeInTurn tables.now (seen S.Store tx.old).now (seen S.Store tx.new).now) }
-    ensures ran { HasCleanDisk (seen S.Store tx.new) → OnOk result (DoneInTurn S.Store (λ table. sql.Succeeds (make table)) tables.now tx.old.conn.now tx.new.conn.now) }
-    ensures failed { HasCleanDisk (seen S.Store tx.new) → IfErr result (FailedInTurn S.Store (λ table. sql.Succeeds (make table)) (λ table. sql.FailsTo (make table)) tables.now tx.old.conn.now tx.new.conn.now) }
-    ensures keeps { HasCleanDisk (seen S.Store tx.new) → KeepsCommit (seen S.Store tx.old) (seen S.Store tx.new) }
-    ensures survives { Survives (seen S.Store tx.old) (seen S.Store tx.new) (λ _. ⊥) }
+    requires ready { WhileOpen (state S.Store (T.held tx.old)) IsReady }
+    ensures same_reference { T.reference tx.new ≡ T.reference tx.old }
+    ensures made { HasCleanDisk (state S.Store (T.held tx.new)) → OnOk result (MadeInTurn tables.now (state S.Store (T.held tx.old)).now (state S.Store (T.held tx.new)).now) }
+    ensures ran { HasCleanDisk (state S.Store (T.held tx.new)) → OnOk result (DoneInTurn S.Store (λ table. sql.Succeeds (make table)) tables.now (T.held tx.old) (T.held tx.new)) }
+    ensures failed { HasCleanDisk (state S.Store (T.held tx.new)) → IfErr result (FailedInTurn S.Store (λ table. sql.Succeeds (make table)) (λ table. sql.FailsTo (make table)) tables.now (T.held tx.old) (T.held tx.new)) }
+    ensures keeps { HasCleanDisk (state S.Store (T.held tx.new)) → KeepsCommit (state S.Store (T.held tx.old)) (state S.Store (T.held tx.new)) }
+    ensures survives { Survives (state S.Store (T.held tx.old)) (state S.Store (T.held tx.new)) (λ _. ⊥) }
 {
     'each: for table in tables {
         create_table(tx, *table)?;
@@ -46,17 +50,17 @@ fn make_each<S: Alter>(tx: &mut Transaction<'_, S>, tables: &[StoreTable]) -> Re
 }
 
 // Makes the tables, with the mark of the empty catalogue.
-fn make_all<S: Alter>(tx: &mut Transaction<'_, S>) -> Result<(), Error>
-    requires ready { WhileOpen (seen S.Store tx.old) IsReady }
-    requires place { WhileOpen (seen S.Store tx.old) (λ db. HasPlace db.schema) }
-    ensures same_reference { tx.new.conn.ghost_name ≡ tx.old.conn.ghost_name }
-    ensures made { HasCleanDisk (seen S.Store tx.new) → OnOk result (Holds known (seen S.Store tx.new).now empty_catalogue × IsDatabase (seen S.Store tx.new).now) }
-    ensures spares { HasCleanDisk (seen S.Store tx.new) → OnOk result (SparesOthers (seen S.Store tx.old).now (seen S.Store tx.new).now) }
-    ensures inside { HasCleanDisk (seen S.Store tx.new) → OnOk result ((seen S.Store tx.new).in_transaction ≡ true) }
-    ensures ran { HasCleanDisk (seen S.Store tx.new) → OnOk result (StepsRunInTurn S.Store (creation known) tx.old.conn.now tx.new.conn.now) }
-    ensures failed { HasCleanDisk (seen S.Store tx.new) → IfErr result (StepsFailInTurn S.Store (creation known) tx.old.conn.now tx.new.conn.now) }
-    ensures keeps { HasCleanDisk (seen S.Store tx.new) → KeepsCommit (seen S.Store tx.old) (seen S.Store tx.new) }
-    ensures survives { Survives (seen S.Store tx.old) (seen S.Store tx.new) (λ _. ⊥) }
+fn make_all<S: Alter, T: OpenTransaction<S>>(tx: &mut T) -> Result<(), Error>
+    requires ready { WhileOpen (state S.Store (T.held tx.old)) IsReady }
+    requires place { WhileOpen (state S.Store (T.held tx.old)) (λ db. HasPlace db.schema) }
+    ensures same_reference { T.reference tx.new ≡ T.reference tx.old }
+    ensures made { HasCleanDisk (state S.Store (T.held tx.new)) → OnOk result (Holds known (state S.Store (T.held tx.new)).now empty_catalogue × IsDatabase (state S.Store (T.held tx.new)).now) }
+    ensures spares { HasCleanDisk (state S.Store (T.held tx.new)) → OnOk result (SparesOthers (state S.Store (T.held tx.old)).now (state S.Store (T.held tx.new)).now) }
+    ensures inside { HasCleanDisk (state S.Store (T.held tx.new)) → OnOk result ((state S.Store (T.held tx.new)).in_transaction ≡ true) }
+    ensures ran { HasCleanDisk (state S.Store (T.held tx.new)) → OnOk result (StepsRunInTurn S.Store (creation known) (T.held tx.old) (T.held tx.new)) }
+    ensures failed { HasCleanDisk (state S.Store (T.held tx.new)) → IfErr result (StepsFailInTurn S.Store (creation known) (T.held tx.old) (T.held tx.new)) }
+    ensures keeps { HasCleanDisk (state S.Store (T.held tx.new)) → KeepsCommit (state S.Store (T.held tx.old)) (state S.Store (T.held tx.new)) }
+    ensures survives { Survives (state S.Store (T.held tx.old)) (state S.Store (T.held tx.new)) (λ _. ⊥) }
 {
     make_each(
         tx,

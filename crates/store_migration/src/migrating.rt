@@ -10,7 +10,7 @@ ghost use Rattle.dict_catalogue.specs.Views.{summary_shown};
 ghost use Rattle.dict_desk.specs.Faults.{is_disk};
 ghost use Rattle.store_tables.specs.Typed.{owned_header};
 ghost use Rattle.store_rows.specs.Versions.{layout_of, known};
-ghost use Rattle.store_tables.specs.Effects.{WhileOpen, seen};
+ghost use Rattle.store_tables.specs.Effects.{WhileOpen};
 ghost use Rattle.store_holdings.specs.Holds.{Holds, IsLeftAs, Rests};
 ghost use Rattle.store_holdings.specs.Writing.{StaysCommitted};
 ghost use Rattle.store_migration.specs.Migrated.{IsMigrated, MayMigrate};
@@ -29,7 +29,7 @@ use crate::marking::renew_mark;
 use crate::older::Older;
 use dict_catalogue::{Summary, edition_numbers};
 use dict_desk::Fault;
-use sqlite::{Alter, Connection, Transaction};
+use sqlite::{Alter, Connection};
 use std::alloc::Global;
 use store_holdings::fault_of_read;
 use store_rows::signed_numbers;
@@ -37,6 +37,7 @@ use store_sql::part_statements::create_part_table;
 use store_sql::records::ReadError;
 use store_tables::HeaderRecord;
 use store_tables::commit::commit;
+use store_tables::transaction::OpenTransaction;
 
 /// The greatest number that a column holds.
 const MAX_NUMBER: u64 = 9_223_372_036_854_775_807;
@@ -45,20 +46,20 @@ const MAX_NUMBER: u64 = 9_223_372_036_854_775_807;
 const LAID_OUT: u64 = 5;
 
 // Makes the table of parts, puts the files of these editions in, and drops the old tables. It answers the editions' headers.
-fn take_apart<S: Alter>(
+fn take_apart<S: Alter, T: OpenTransaction<S>>(
     alloc: Global,
-    tx: &mut Transaction<'_, S>,
+    tx: &mut T,
     layout: Older,
     numbers: &[i64],
 ) -> Result<Vec<HeaderRecord<String>>, ReadError>
-    requires { WhileOpen (seen S.Store tx.old) (IsOld (layout_as layout)) }
-    ensures same_reference { tx.new.conn.ghost_name ≡ tx.old.conn.ghost_name }
-    ensures apart { HasCleanDisk (seen S.Store tx.new) → IfOk result (λ headers. AreTakenApart layout numbers.now (map owned_header headers.items) (seen S.Store tx.old).now (seen S.Store tx.new).now) }
-    ensures opened { HasCleanDisk (seen S.Store tx.new) → OnOk result (IsTrue (seen S.Store tx.old).is_open) }
-    ensures inside { HasCleanDisk (seen S.Store tx.new) → OnOk result ((seen S.Store tx.new).in_transaction ≡ true) }
-    ensures failed { HasCleanDisk (seen S.Store tx.new) → IfErr result (MigrationFailsInside S.Store (InApart layout numbers.now) tx.old.conn.now tx.new.conn.now) }
-    ensures keeps { HasCleanDisk (seen S.Store tx.new) → KeepsCommit (seen S.Store tx.old) (seen S.Store tx.new) }
-    ensures survives { Survives (seen S.Store tx.old) (seen S.Store tx.new) (λ _. ⊥) }
+    requires { WhileOpen (state S.Store (T.held tx.old)) (IsOld (layout_as layout)) }
+    ensures same_reference { T.reference tx.new ≡ T.reference tx.old }
+    ensures apart { HasCleanDisk (state S.Store (T.held tx.new)) → IfOk result (λ headers. AreTakenApart layout numbers.now (map owned_header headers.items) (state S.Store (T.held tx.old)).now (state S.Store (T.held tx.new)).now) }
+    ensures opened { HasCleanDisk (state S.Store (T.held tx.new)) → OnOk result (IsTrue (state S.Store (T.held tx.old)).is_open) }
+    ensures inside { HasCleanDisk (state S.Store (T.held tx.new)) → OnOk result ((state S.Store (T.held tx.new)).in_transaction ≡ true) }
+    ensures failed { HasCleanDisk (state S.Store (T.held tx.new)) → IfErr result (MigrationFailsInside S.Store (InApart layout numbers.now) (T.held tx.old) (T.held tx.new)) }
+    ensures keeps { HasCleanDisk (state S.Store (T.held tx.new)) → KeepsCommit (state S.Store (T.held tx.old)) (state S.Store (T.held tx.new)) }
+    ensures survives { Survives (state S.Store (T.held tx.old)) (state S.Store (T.held tx.new)) (λ _. ⊥) }
 {
     create_part_table(tx)?;
     let headers = part_editions(alloc, tx, layout, numbers)?;
@@ -67,21 +68,21 @@ fn take_apart<S: Alter>(
 }
 
 // All that is done before the commit to tables that an older version laid out.
-fn move_tables<S: Alter>(
+fn move_tables<S: Alter, T: OpenTransaction<S>>(
     alloc: Global,
-    tx: &mut Transaction<'_, S>,
+    tx: &mut T,
     layout: Older,
     numbers: &[i64],
     installs: u64,
 ) -> Result<(), ReadError>
     requires installs { installs ≤ 9223372036854775807 }
-    requires old { WhileOpen (seen S.Store tx.old) (IsOld (layout_as layout)) }
-    ensures same_reference { tx.new.conn.ghost_name ≡ tx.old.conn.ghost_name }
-    ensures moved { HasCleanDisk (seen S.Store tx.new) → OnOk result (IsOutcome (Some layout) numbers.now installs (seen S.Store tx.old) (seen S.Store tx.new).now × IsDatabase (seen S.Store tx.new).now) }
-    ensures inside { HasCleanDisk (seen S.Store tx.new) → OnOk result ((seen S.Store tx.new).in_transaction ≡ true) }
-    ensures failed { HasCleanDisk (seen S.Store tx.new) → IfErr result (MigrationFailsInside S.Store (InMove layout numbers.now installs) tx.old.conn.now tx.new.conn.now) }
-    ensures keeps { HasCleanDisk (seen S.Store tx.new) → KeepsCommit (seen S.Store tx.old) (seen S.Store tx.new) }
-    ensures survives { Survives (seen S.Store tx.old) (seen S.Store tx.new) (λ _. ⊥) }
+    requires old { WhileOpen (state S.Store (T.held tx.old)) (IsOld (layout_as layout)) }
+    ensures same_reference { T.reference tx.new ≡ T.reference tx.old }
+    ensures moved { HasCleanDisk (state S.Store (T.held tx.new)) → OnOk result (IsOutcome (Some layout) numbers.now installs (state S.Store (T.held tx.old)) (state S.Store (T.held tx.new)).now × IsDatabase (state S.Store (T.held tx.new)).now) }
+    ensures inside { HasCleanDisk (state S.Store (T.held tx.new)) → OnOk result ((state S.Store (T.held tx.new)).in_transaction ≡ true) }
+    ensures failed { HasCleanDisk (state S.Store (T.held tx.new)) → IfErr result (MigrationFailsInside S.Store (InMove layout numbers.now installs) (T.held tx.old) (T.held tx.new)) }
+    ensures keeps { HasCleanDisk (state S.Store (T.held tx.new)) → KeepsCommit (state S.Store (T.held tx.old)) (state S.Store (T.held tx.new)) }
+    ensures survives { Survives (state S.Store (T.held tx.old)) (state S.Store (T.held tx.new)) (λ _. ⊥) }
 {
     let headers = take_apart(alloc, tx, layout, numbers)?;
     head_editions(tx, &headers)?;
@@ -90,21 +91,21 @@ fn move_tables<S: Alter>(
 }
 
 // All that is done before the commit: of tables that are laid out as those of the known version already, the mark alone is written.
-fn migrate_inside<S: Alter>(
+fn migrate_inside<S: Alter, T: OpenTransaction<S>>(
     alloc: Global,
-    tx: &mut Transaction<'_, S>,
+    tx: &mut T,
     layout: Option<Older>,
     numbers: &[i64],
     installs: u64,
 ) -> Result<(), ReadError>
     requires installs { installs ≤ 9223372036854775807 }
-    requires old { WhileOpen (seen S.Store tx.old) (IsOld (layout_before layout)) }
-    ensures same_reference { tx.new.conn.ghost_name ≡ tx.old.conn.ghost_name }
-    ensures moved { HasCleanDisk (seen S.Store tx.new) → OnOk result (IsOutcome layout numbers.now installs (seen S.Store tx.old) (seen S.Store tx.new).now × IsDatabase (seen S.Store tx.new).now) }
-    ensures inside { HasCleanDisk (seen S.Store tx.new) → OnOk result ((seen S.Store tx.new).in_transaction ≡ true) }
-    ensures failed { HasCleanDisk (seen S.Store tx.new) → IfErr result (MigrationFailsInside S.Store (InRenewal layout numbers.now installs) tx.old.conn.now tx.new.conn.now) }
-    ensures keeps { HasCleanDisk (seen S.Store tx.new) → KeepsCommit (seen S.Store tx.old) (seen S.Store tx.new) }
-    ensures survives { Survives (seen S.Store tx.old) (seen S.Store tx.new) (λ _. ⊥) }
+    requires old { WhileOpen (state S.Store (T.held tx.old)) (IsOld (layout_before layout)) }
+    ensures same_reference { T.reference tx.new ≡ T.reference tx.old }
+    ensures moved { HasCleanDisk (state S.Store (T.held tx.new)) → OnOk result (IsOutcome layout numbers.now installs (state S.Store (T.held tx.old)) (state S.Store (T.held tx.new)).now × IsDatabase (state S.Store (T.held tx.new)).now) }
+    ensures inside { HasCleanDisk (state S.Store (T.held tx.new)) → OnOk result ((state S.Store (T.held tx.new)).in_transaction ≡ true) }
+    ensures failed { HasCleanDisk (state S.Store (T.held tx.new)) → IfErr result (MigrationFailsInside S.Store (InRenewal layout numbers.now installs) (T.held tx.old) (T.held tx.new)) }
+    ensures keeps { HasCleanDisk (state S.Store (T.held tx.new)) → KeepsCommit (state S.Store (T.held tx.old)) (state S.Store (T.held tx.new)) }
+    ensures survives { Survives (state S.Store (T.held tx.old)) (state S.Store (T.held tx.new)) (λ _. ⊥) }
 {
     match layout {
         Some(older) => move_tables(alloc, tx, older, numbers, installs),

@@ -3,7 +3,7 @@ use Rattle.store_tables.specs.Typed.{owned_edition}
 use Rattle.store_holdings.specs.Files.{index_octets, parts_under}
 use Rattle.store_migration.specs.FailurePlaces.{InRecord, Putting}
 use Rattle.store_migration.specs.Steps.{IsEditionOf}
-use Rattle.store_migration.proofs.KitLemmas.{Database, AreAdded, seen, passed_on, was_clean, two_survive, signed_back, part_row}
+use Rattle.store_migration.proofs.KitLemmas.{Database, AreAdded, state, passed_on, was_clean, two_survive, signed_back, part_row}
 use Rattle.store_migration.proofs.FailLemmas.{fails_later, fails_within}
 use Rattle.store_migration.proofs.FlowLemmas.{three_still}
 use Rattle.store_migration.proofs.editions.part_edition.Goals as goal
@@ -14,16 +14,17 @@ read_index-requires g c clean open' = (c.requires clean open').entries
 pub read_record-requires : goal.read_record-requires
 read_record-requires g c clean open' =
     let index = (c.in_ok-index.ensures.index clean).1.0 in
-    let s0 = seen g.S.Store c.args.tx.now in
-    (three_still c.args.layout s0.now (seen g.S.Store c.read_index.new.tx).now (ap (λ (d : Database). d.schema) index.now_is) (c.requires (was_clean c.read_index.ensures.survives clean) index.was_open)).editions
+    let s0 = state g.S.Store (g.T.OpenTransaction.held c.args.tx.now) in
+    (three_still c.args.layout s0.now (state g.S.Store (g.T.OpenTransaction.held c.read_index.new.tx)).now (ap (λ (d : Database). d.schema) index.now_is) (c.requires (was_clean c.read_index.ensures.survives clean) index.was_open)).editions
 
 pub put_files-requires : goal.put_files-requires
 put_files-requires g c clean open' =
     let clean1 = was_clean c.read_record.ensures.survives clean in
     let index = (c.in_ok-index.ensures.index clean1).1.0 in
     let one = (c.in_ok-edition.ensures.edition clean).1.0 in
-    let s0 = seen g.S.Store c.args.tx.now in
-    (three_still c.args.layout s0.now (seen g.S.Store c.read_record.new.tx).now (ap (λ (d : Database). d.schema) (one.now_is ∙ index.now_is)) (c.requires (was_clean c.read_index.ensures.survives clean1) index.was_open)).parts
+    let s0 = state g.S.Store (g.T.OpenTransaction.held c.args.tx.now) in
+    (three_still c.args.layout s0.now (state g.S.Store (g.T.OpenTransaction.held c.read_record.new.tx)).now (ap (λ (d : Database). d.schema) (one.now_is ∙ index.now_is))
+    (c.requires (was_clean c.read_index.ensures.survives clean1) index.was_open)).parts
 
 pub returns-clause-parted : goal.returns-clause-parted
 returns-clause-parted g c clean =
@@ -38,7 +39,8 @@ returns-clause-parted g c clean =
       one = subst (λ (d : Database). IsEditionOf c.args.number d (owned_edition c.in_ok-edition.edition)) index.1.0.now_is one.0;
       header_is = c.without_text.ensures;
       lines = index.0.lines;
-      added = subst (λ (d : Database). AreAdded (codes "dictcat_part") (map part_row (parts_under c.args.number (index_octets index.0.entries) (owned_edition c.in_ok-edition.edition).body)) d (seen g.S.Store c.put_files.new.tx).now)
+      added = subst (λ (d : Database). AreAdded (codes "dictcat_part") (map part_row (parts_under c.args.number (index_octets index.0.entries) (owned_edition c.in_ok-edition.edition).body)) d
+          (state g.S.Store (g.T.OpenTransaction.held c.put_files.new.tx)).now)
           (one.1.0.now_is ∙ index.1.0.now_is) put;
     }
 

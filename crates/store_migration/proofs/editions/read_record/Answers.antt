@@ -4,7 +4,7 @@ use Rattle.store_sql.specs.Encodings.{stored_edition}
 use Rattle.store_sql.specs.Reads.{IsSelection}
 use Rattle.store_sql.specs.declared.records.ReadError.{ReadError}
 use Rattle.store_migration.specs.MigrationParts.{FailsBy}
-use Rattle.store_migration.proofs.KitLemmas.{equals_number, seen, passed_on, signed_back}
+use Rattle.store_migration.proofs.KitLemmas.{equals_number, state, passed_on, signed_back}
 use Rattle.store_migration.proofs.FailLemmas.{fails_by, fails_here, choosing, reading}
 use Rattle.store_migration.proofs.ReadLemmas.{edition_in, none_read, one_read}
 use Rattle.store_migration.proofs.editions.read_record.Goals as goal
@@ -20,12 +20,12 @@ returns-in_err-editions-clause-failed g c clean =
 
 pub returns-in_err-row-clause-failed : goal.returns-in_err-row-clause-failed
 returns-in_err-row-clause-failed g c clean =
-    let s1 = seen g.S.Store c.editions_inside.new.tx in
+    let s1 = state g.S.Store (g.T.OpenTransaction.held c.editions_inside.new.tx) in
     let n = c.args.number in
     let items = c.in_ok-editions.editions.items in
     let it = rw (signed_back n c.ranges.number) at (c.in_ok-editions.ensures.selected clean) in
     let none = subst (λ d. IsSelection (codes "edition") (equals_number 1 n) (1 ∷ []) d (map stored_edition items)) (sym it.1.0.now_is) it.0 in
     let why = c.in_err-row.ensures.none in
     passed_on _ _ _ c.from_residual-in_err-row.ensures.1
-    (fails_by c.editions_inside.new.tx.conn.now (choosing n) c.editions_inside.ensures.survives (λ h. it.1.0.mode ∙ h) (inr (refl, it.1.0.now_is))
+    (fails_by (g.T.OpenTransaction.held c.editions_inside.new.tx) (choosing n) c.editions_inside.ensures.survives (λ h. it.1.0.mode ∙ h) (inr (refl, it.1.0.now_is))
     (subst (λ (e : ReadError). FailsBy (choosing n) s1 s1 e) (sym why.0) (none_read n s1.now items none why.1)))

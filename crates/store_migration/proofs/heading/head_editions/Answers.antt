@@ -1,5 +1,5 @@
 use Rattle.std.proofs.Common.{inl, inr, refl}
-use Rattle.store_migration.proofs.KitLemmas.{header, header_defined, seen, own_has, one_own, passed_on, was_clean}
+use Rattle.store_migration.proofs.KitLemmas.{header, header_defined, state, own_has, one_own, passed_on, was_clean}
 use Rattle.store_migration.proofs.FailLemmas.{fails_here, fails_later, making_editions}
 use Rattle.store_migration.proofs.heading.head_editions.Goals as goal
 
@@ -10,7 +10,7 @@ pub put_headers-requires : goal.put_headers-requires
 put_headers-requires g c clean open' =
     let made = c.in_ok-create_header_table.ensures.made clean in
     let may = c.requires (was_clean c.create_header_table.ensures.survives clean) made.1.was_open in
-    let s1 = seen g.S.Store c.create_header_table.new.tx in
+    let s1 = state g.S.Store (g.T.OpenTransaction.held c.create_header_table.new.tx) in
     own_has header s1.now (one_own header header_defined _ s1.now made.0 may.sound may.room.unused may.room.unreferred)
 
 pub returns-clause-headed : goal.returns-clause-headed

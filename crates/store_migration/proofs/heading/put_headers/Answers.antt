@@ -4,7 +4,7 @@ use Rattle.store_sql.specs.HeaderRecords.{header_row}
 use Rattle.store_sql.specs.Inserts.{FailsToInsert}
 use Rattle.store_tables.proofs.AddedLemmas.{none_added}
 use Rattle.store_migration.specs.FailurePlaces.{Putting}
-use Rattle.store_migration.proofs.KitLemmas.{state, HasCleanDisk, header, AreAdded, IsAdded, seen, still_has, goes_keeps, keeps_then, passed_on, keeps_none, none_more, was_clean, two_survive, Row, HeaderRecord}
+use Rattle.store_migration.proofs.KitLemmas.{state, HasCleanDisk, header, AreAdded, IsAdded, still_has, goes_keeps, keeps_then, passed_on, keeps_none, none_more, was_clean, two_survive, Row, HeaderRecord}
 use Rattle.store_migration.proofs.FailLemmas.{fails_by, row_placed, row_more, putting}
 use Rattle.store_tables.specs.Typed.{owned_header}
 use Rattle.store_holdings.proofs.ReadingLemmas.{map_twice}
@@ -17,12 +17,12 @@ each-init g c = record { same_reference = refl; added = λ clean. none_added (co
 pub insert_header-requires : goal.insert_header-requires
 insert_header-requires g c clean open' =
     let own = c.requires (was_clean c.each.invariant.survives clean) ((c.each.invariant.keeps clean).was_open open') in
-    still_has header (seen g.S.Store c.args.tx.now).now (seen g.S.Store c.each.tx).now (c.each.invariant.added clean).schema own
+    still_has header (state g.S.Store (g.T.OpenTransaction.held c.args.tx.now)).now (state g.S.Store (g.T.OpenTransaction.held c.each.tx)).now (c.each.invariant.added clean).schema own
 
 pub each-preserved : goal.each-preserved
 each-preserved g c =
-    let mid = seen g.S.Store c.each.tx in
-    let new = seen g.S.Store c.insert_header.new.tx in
+    let mid = state g.S.Store (g.T.OpenTransaction.held c.each.tx) in
+    let new = state g.S.Store (g.T.OpenTransaction.held c.insert_header.new.tx) in
     let item = c.header-item.result in
     let was = λ (clean : HasCleanDisk new). was_clean c.insert_header.ensures.survives clean in
     record {
@@ -37,17 +37,17 @@ each-preserved g c =
 pub returns-clause-added : goal.returns-clause-added
 returns-clause-added g c clean =
     let rows = ap (map owned_row) (take_all _ _ c.each-test.false) ∙ sym (map_twice owned_header header_row c.args.headers.now) in
-    subst (λ (l : List Row). AreAdded (codes "edition") l (seen g.S.Store c.args.tx.now).now (seen g.S.Store c.each.tx).now) rows (c.each.invariant.added clean)
+    subst (λ (l : List Row). AreAdded (codes "edition") l (state g.S.Store (g.T.OpenTransaction.held c.args.tx.now)).now (state g.S.Store (g.T.OpenTransaction.held c.each.tx)).now) rows (c.each.invariant.added clean)
 
 pub returns-in_err-insert_header-clause-failed : goal.returns-in_err-insert_header-clause-failed
 returns-in_err-insert_header-clause-failed g c clean =
-    let old = c.args.tx.now.conn.now in
-    let mid = c.each.tx.conn.now in
+    let old = (g.T.OpenTransaction.held c.args.tx.now) in
+    let mid = (g.T.OpenTransaction.held c.each.tx) in
     let early = was_clean c.insert_header.ensures.survives clean in
     let item = c.header-item.result in
     let part = putting (codes "edition") (owned_row item) in
     let place = row_placed (codes "edition") owned_row c.args.headers.now c.each.header-index item (owned_row item) c.each-test.true (ap owned_row c.header-item.is) _ _ (c.each.invariant.added early) in
-    let fails = subst (λ (h : HeaderRecord). FailsToInsert (codes "edition") (header_row h) (state g.S.Store mid) (seen g.S.Store c.insert_header.new.tx) c.in_err-insert_header.field-0.0) c.lend-given.ensures
+    let fails = subst (λ (h : HeaderRecord). FailsToInsert (codes "edition") (header_row h) (state g.S.Store mid) (state g.S.Store (g.T.OpenTransaction.held c.insert_header.new.tx)) c.in_err-insert_header.field-0.0) c.lend-given.ensures
     (c.in_err-insert_header.ensures.failed clean) in
     passed_on _ _ _ c.from_residual.ensures.1
     (fails_by mid part c.each.invariant.survives (c.each.invariant.inside early)

@@ -1,5 +1,5 @@
 use Rattle.std.proofs.Common.{inl, inr, refl}
-use Rattle.store_migration.proofs.KitLemmas.{seen, passed_on, was_clean, two_survive}
+use Rattle.store_migration.proofs.KitLemmas.{state, passed_on, was_clean, two_survive}
 use Rattle.store_migration.proofs.FailLemmas.{fails_here, fails_later, making_parts}
 use Rattle.store_migration.proofs.FlowLemmas.{gone_later, made_gone, made_three, part_free, parted_schema}
 use Rattle.store_migration.proofs.migrating.take_apart.Goals as goal
@@ -17,8 +17,8 @@ drop_old-requires g c clean open' =
     let clean1 = was_clean c.part_editions.ensures.survives clean in
     let made = c.in_ok-create_part_table.ensures.made clean1 in
     let old = c.requires (was_clean c.create_part_table.ensures.survives clean1) made.1.was_open in
-    let s1 = seen g.S.Store c.create_part_table.new.tx in
-    gone_later c.args.layout s1.now (seen g.S.Store c.part_editions.new.tx).now (parted_schema c.args.layout _ _ _ _ (c.in_ok-headers.ensures.parted clean)) (made_gone c.args.layout _ _ old made.0)
+    let s1 = state g.S.Store (g.T.OpenTransaction.held c.create_part_table.new.tx) in
+    gone_later c.args.layout s1.now (state g.S.Store (g.T.OpenTransaction.held c.part_editions.new.tx)).now (parted_schema c.args.layout _ _ _ _ (c.in_ok-headers.ensures.parted clean)) (made_gone c.args.layout _ _ old made.0)
 
 pub returns-clause-apart : goal.returns-clause-apart
 returns-clause-apart g c clean =
