@@ -28,7 +28,7 @@ use Rattle.store_rows.proofs.TakenLemmas.{same_number_is, same_itself}
 use Rattle.store_holdings.specs.HeldTexts.{rows_under}
 use Rattle.store_holdings.specs.Files.{parts_under, installed_parts}
 use Rattle.store_holdings.specs.AllTables.{AllTables, beside_installed, all_after}
-use Rattle.store_holdings.specs.Holds.{Keeps}
+use Rattle.store_sql.specs.Readings.{Keeps}
 use Rattle.store_commands.specs.KeptRecords.{HasRecords, TurnsRecords}
 use Rattle.store_commands.specs.Filing.{parts_of_filing, AreAllPartsFiled, IsOfEdition, HasFiledParts, filing_part, AreOfSomePart, with_part}
 use Rattle.store_commands.specs.FiledParts.{FilesUpTo, WritesUpTo, FailsAmong}

@@ -17,7 +17,7 @@ use Rattle.store_rows.specs.Tables.{same_number}
 use Rattle.store_rows.specs.After.{is_gone}
 use Rattle.store_rows.proofs.SelectionLemmas.{filter_filter, filter_alike}
 use Rattle.store_holdings.specs.AllTables.{AllTables}
-use Rattle.store_holdings.specs.Holds.{Keeps}
+use Rattle.store_sql.specs.Readings.{Keeps}
 use Rattle.store_commands.specs.KeptRecords.{HasRecords, FitsColumn, TurnsRecords}
 use Rattle.store_commands.specs.Changes.{without_editions}
 use Rattle.store_commands.specs.Statements.{taking}

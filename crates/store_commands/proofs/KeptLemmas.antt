@@ -25,7 +25,8 @@ use Rattle.dict_catalogue.specs.declared.reply.Verb.{Verb}
 use Rattle.store_rows.specs.Written.{kept_record, verb_name}
 use Rattle.store_rows.proofs.OrderLemmas.{IsIn, Same, same_from}
 use Rattle.store_rows.proofs.OnceLemmas.{kept_same}
-use Rattle.store_holdings.specs.Holds.{Holds, Keeps}
+use Rattle.store_holdings.specs.Holds.{Holds}
+use Rattle.store_sql.specs.Readings.{Keeps}
 use Rattle.store_commands.specs.KeptRecords.{HoldsReplies}
 use Rattle.store_commands.proofs.RowLemmas.{filter_map}
 use Rattle.store_holdings.proofs.ReadingLemmas.{replies_kept}

@@ -15,7 +15,7 @@ use Rattle.store_tables.specs.Effects.{HasApartRowids, same_value, IsRemoved, eq
 use Rattle.store_tables.proofs.Callers.{apart_removed, apart_none}
 use Rattle.store_rows.specs.Tables.{same_number}
 use Rattle.store_rows.proofs.TakenLemmas.{same_number_is, same_itself}
-use Rattle.store_holdings.specs.Holds.{Keeps}
+use Rattle.store_sql.specs.Readings.{Keeps}
 
 pub filter_map : {A B : Type 0} (f : A → B) (p : B → Bool) (q : A → Bool) → ((a : A) → q a ≡ p (f a)) → (xs : List A) → map f (filter q xs) ≡ filter p (map f xs)
 filter_map f p q same [] = refl

@@ -24,9 +24,10 @@ use Rattle.store_sql.specs.PartRecords.{part_row}
 use Rattle.store_tables.specs.Records.{Mark, ItemRecord, Member, EditionRecord, EntryRecord, Part, KeptRecord, header_of}
 use Rattle.store_rows.specs.Versions.{Parted}
 use Rattle.store_holdings.specs.AllTables.{AllTables}
-use Rattle.store_holdings.specs.Readings as reading
-use Rattle.store_holdings.specs.Readings.{TableReading, table_name_of, readings, KeepsRows}
-use Rattle.store_holdings.specs.Holds.{Keeps, HasLayout}
+use Rattle.store_sql.specs.Readings as reading
+use Rattle.store_sql.specs.Readings.{TableReading, table_name_of, readings, KeepsRows}
+use Rattle.store_holdings.specs.Holds.{HasLayout}
+use Rattle.store_sql.specs.Readings.{Keeps}
 use Rattle.store_holdings.proofs.KeepLemmas.{unmoved, keeps_added}
 use Rattle.store_commands.specs.KeptRecords.{HasRecords, IsUsable, IsOther, SparesTablesOfOthers, TurnsRecords}
 use Rattle.store_commands.specs.Changes.{without_items, without_members, with_more_items, with_more_members, with_more_editions, with_more_parts}

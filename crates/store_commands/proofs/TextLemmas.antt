@@ -21,9 +21,10 @@ use Rattle.store_rows.specs.Written.{numbered}
 use Rattle.store_rows.proofs.AfterLemmas.{filter_none}
 use Rattle.store_rows.proofs.SelectionLemmas.{filter_filter}
 use Rattle.store_rows.proofs.TakenLemmas.{same_number_is, same_itself, nat_same}
-use Rattle.store_holdings.specs.Files.{part_at, file_parts, parts_under, installed_parts}
+use Rattle.store_holdings.specs.Files.{parts_under, installed_parts}
+use Rattle.store_rows.specs.FileParts.{part_at, file_parts}
 use Rattle.store_holdings.specs.AllTables.{beside_installed}
-use Rattle.store_holdings.specs.Holds.{Keeps}
+use Rattle.store_sql.specs.Readings.{Keeps}
 use Rattle.store_holdings.specs.HeldTexts.{text_rows, HoldsText}
 use Rattle.store_commands.specs.KeptRecords.{FitsColumn}
 use Rattle.store_commands.proofs.RowLemmas.{compared_values, filter_map}

@@ -11,8 +11,9 @@ use Rattle.store_rows.specs.Written.{kept_record}
 use Rattle.store_tables.specs.Found.{found_table}
 use Rattle.store_rows.specs.Versions.{known, layout_of}
 use Rattle.store_holdings.specs.AllTables.{AllTables}
-use Rattle.store_holdings.specs.Holds.{HasLayout, Keeps}
-use Rattle.store_holdings.specs.Readings.{table_name_of, readings, KeepsAll}
+use Rattle.store_holdings.specs.Holds.{HasLayout}
+use Rattle.store_sql.specs.Readings.{Keeps}
+use Rattle.store_sql.specs.Readings.{table_name_of, readings, KeepsAll}
 use Rattle.store_holdings.specs.HeldTexts.{text_rows}
 
 -- the database has the product's tables, and they keep these records

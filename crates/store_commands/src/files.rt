@@ -7,7 +7,7 @@ ghost use Rattle.dict_index.specs.Views.{line_of};
 ghost use Rattle.store_rows.specs.Stored.{stored_index, IsStorable as IsStorableLine};
 ghost use Rattle.store_rows.specs.Parts.{parts_of};
 ghost use Rattle.store_sql.specs.PartRecords.{lent_part};
-ghost use Rattle.store_holdings.specs.Files.{part_at};
+ghost use Rattle.store_rows.specs.FileParts.{part_at};
 ghost use Rattle.store_commands.specs.KeptRecords.{IsUsable, FitsColumn};
 ghost use Rattle.store_commands.specs.Statements.{adding_part};
 ghost use Rattle.store_commands.specs.Changes.{with_more_parts, index_by};

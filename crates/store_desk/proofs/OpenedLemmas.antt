@@ -8,7 +8,7 @@ use Rattle.dict_catalogue.specs.Steps.{Catalogue}
 use Rattle.store_holdings.specs.AllTables.{with_derived, as_version}
 use Rattle.dict_desk.specs.Shown.{HasEdition}
 use Rattle.store_holdings.specs.Holds.{AreOrphans}
-use Rattle.store_holdings.specs.Readings.{KeepsAll}
+use Rattle.store_sql.specs.Readings.{KeepsAll}
 use Rattle.store_holdings.proofs.OrphanLemmas.{beside_orphans, no_orphans}
 use Rattle.store_tables.specs.Records.{Part}
 use Rattle.store_holdings.proofs.HeldLemmas.{number_few, number_known, text_held}

@@ -11,7 +11,7 @@ use Rattle.dict_catalogue.specs.Tests.{Holdings}
 use Rattle.dict_catalogue.specs.Steps.{Catalogue, summary_of}
 use Rattle.dict_desk.specs.Shown.{HasEdition}
 use Rattle.store_rows.specs.Versions.{known}
-use Rattle.store_holdings.specs.Files.{file_parts}
+use Rattle.store_rows.specs.FileParts.{file_parts}
 use Rattle.store_sql.specs.PartRecords.{part_row}
 use Rattle.store_holdings.specs.Holds.{Holds}
 use Rattle.store_holdings.specs.HeldTexts.{HoldsText, text_rows}

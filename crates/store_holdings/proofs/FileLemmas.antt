@@ -20,7 +20,8 @@ use Rattle.store_rows.proofs.ListLemmas.{each_numbered}
 use Rattle.store_rows.proofs.ChangeLemmas.{IsFit, IsFree, fit_of, free_of}
 use Rattle.store_rows.proofs.TakenLemmas.{same_number_is, same_itself}
 use Rattle.store_holdings.specs.AllTables.{HasNoneOf, HasNewNumber}
-use Rattle.store_holdings.specs.Files.{part_at, file_parts, parts_under, edition_parts, all_parts, index_octets, entry_line, installed_parts}
+use Rattle.store_holdings.specs.Files.{parts_under, edition_parts, all_parts, index_octets, entry_line, installed_parts}
+use Rattle.store_rows.specs.FileParts.{part_at, file_parts}
 
 -- ---- what passes a test, and what is made of it
 

@@ -5,7 +5,8 @@ use Rattle.store_tables.specs.Records.{Part}
 use Rattle.store_rows.specs.Parts.{parts_of, part_count}
 use Rattle.store_rows.proofs.PartLemmas.{parts_length}
 use Rattle.store_rows.proofs.ListLemmas.{numbered_at, numbered_length}
-use Rattle.store_holdings.specs.Files.{part_at, file_parts, parts_under}
+use Rattle.store_holdings.specs.Files.{parts_under}
+use Rattle.store_rows.specs.FileParts.{part_at, file_parts}
 
 -- ---- how many they are
 

@@ -25,11 +25,12 @@ use Rattle.store_rows.specs.Versions.{Parted, layout_of, known}
 use Rattle.store_rows.proofs.ChangeLemmas.{each_among}
 use Rattle.store_rows.proofs.SelectionLemmas.{filter_filter}
 use Rattle.store_holdings.specs.AllTables.{with_derived}
-use Rattle.store_holdings.specs.Files.{all_parts, file_parts}
+use Rattle.store_holdings.specs.Files.{all_parts}
+use Rattle.store_rows.specs.FileParts.{file_parts}
 use Rattle.store_holdings.proofs.OrphanLemmas.{beside_orphans}
 use Rattle.store_holdings.proofs.TellLemmas.{file_told, text_under, parts_held}
 use Rattle.dict_desk.specs.Shown.{HasEdition}
-use Rattle.store_holdings.specs.Readings.{KeepsAll}
+use Rattle.store_sql.specs.Readings.{KeepsAll}
 use Rattle.store_holdings.specs.Holds.{HasLayout, Holds}
 use Rattle.store_holdings.specs.HeldTexts.{HoldsText, text_rows, rows_under}
 use Rattle.store_holdings.proofs.ReadableLemmas as holdings
@@ -38,7 +39,8 @@ use Rattle.store_holdings.specs.Searches.{HasLookupTables, HoldsOne, IsEditionRe
 use Rattle.store_holdings.specs.CutTexts.{Cuts}
 use Rattle.store_holdings.proofs.LookupLemmas.{all_contains}
 use Rattle.store_holdings.proofs.RowLemmas.{column_behind, rows_tested, rows_numbered, same_int}
-use Rattle.store_holdings.proofs.OneLemmas.{both, decode_part, part_back}
+use Rattle.store_holdings.proofs.OneLemmas.{both}
+use Rattle.store_sql.proofs.DecodeLemmas.{decode_part, part_back}
 
 -- ---- the rows of a number
 

@@ -12,7 +12,7 @@ use Rattle.sqlite_schema.specs.Names.{table_named}
 use Rattle.store_tables.specs.Found.{HasOwn, HasTable}
 use Rattle.store_tables.specs.Effects.{HasApartRowids, IsAdded, SameOthers, rows_of, shown, table_in}
 use Rattle.store_tables.proofs.Callers.{apart_added, apart_none}
-use Rattle.store_holdings.specs.Holds.{Keeps}
+use Rattle.store_sql.specs.Readings.{Keeps}
 
 at_place : {X : Type 0} (P : X → Type 0) (xs : List X) (at : ℕ) (x : X) → AllByRecursion P xs → slice_get xs at ≡ Some x → P x
 at_place P [] at x h e = absurd (cc)

@@ -9,7 +9,6 @@ pub mod ReadingLemmas
 pub mod PlaceLemmas
 pub mod KeepLemmas
 pub mod CommitLemmas
-pub mod ReadLemmas
 pub mod ReadableLemmas
 pub mod OneLemmas
 pub mod UnderLemmas

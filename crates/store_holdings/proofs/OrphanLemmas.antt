@@ -27,7 +27,7 @@ use Rattle.store_rows.proofs.TakenLemmas.{same_number_is}
 use Rattle.store_holdings.specs.AllTables.{AllTables, with_derived, all_after, beside_installed, orphans_after, HasNewNumber}
 use Rattle.store_holdings.specs.Files.{all_parts, edition_parts, index_octets, installed_parts}
 use Rattle.store_holdings.specs.Holds.{AreOrphans}
-use Rattle.store_holdings.specs.Readings.{TableReading, KeepsRows, KeepsAll, marks, items as item_readings, members, kept_replies, editions, contents, table_name_of}
+use Rattle.store_sql.specs.Readings.{TableReading, KeepsRows, KeepsAll, marks, items as item_readings, members, kept_replies, editions, contents, table_name_of}
 use Rattle.store_holdings.proofs.FileLemmas.{passes, flat_map_filtered, of_under, parts_after, turned}
 use Rattle.store_rows.proofs.RiseLemmas.{any_holds}
 

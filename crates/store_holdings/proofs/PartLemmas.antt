@@ -28,7 +28,7 @@ use Rattle.store_rows.specs.Written.{numbered}
 use Rattle.store_rows.proofs.OrderLemmas.{all_same, same_from, one_once}
 use Rattle.store_rows.proofs.SelectionLemmas.{filter_filter}
 use Rattle.store_rows.proofs.TakenLemmas.{nat_itself}
-use Rattle.store_holdings.specs.Files.{part_at, file_parts}
+use Rattle.store_rows.specs.FileParts.{part_at, file_parts}
 use Rattle.store_holdings.specs.HeldTexts.{HoldsText}
 use Rattle.store_holdings.specs.Searches.{IsEditionReadable}
 use Rattle.store_holdings.proofs.ReadingLemmas.{map_twice}

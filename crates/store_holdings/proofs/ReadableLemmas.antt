@@ -30,8 +30,8 @@ use Rattle.store_rows.proofs.ListLemmas.{all_numbered}
 use Rattle.store_rows.proofs.OrderLemmas.{each_in, in_all, all_same, all_with, passed_in}
 use Rattle.store_rows.proofs.TakenLemmas.{same_number_is, same_itself}
 use Rattle.store_holdings.specs.Holds.{Holds}
-use Rattle.store_holdings.specs.Readings as looks
-use Rattle.store_holdings.specs.Readings.{TableReading, KeepsRows, KeepsAll, IsReadable, HasReadableRows}
+use Rattle.store_sql.specs.Readings as looks
+use Rattle.store_sql.specs.Readings.{TableReading, KeepsRows, KeepsAll, IsReadable, HasReadableRows}
 use Rattle.store_rows.specs.Versions.{Layout, Plain, Keyed, Shown, Parted, layout_of}
 use Rattle.store_sql.specs.HeaderRecords.{header_row, header_columns}
 use Rattle.store_sql.specs.PartRecords.{part_row, part_columns}

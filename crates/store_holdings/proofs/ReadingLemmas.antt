@@ -9,9 +9,9 @@ use Rattle.store_rows.specs.Tables.{Tables}
 use Rattle.store_rows.specs.Versions.{Layout, Plain, Keyed, Shown, Parted}
 use Rattle.store_holdings.specs.AllTables.{with_derived}
 use Rattle.store_holdings.specs.Files.{all_parts}
-use Rattle.store_holdings.specs.Readings as looks
-use Rattle.store_holdings.specs.Readings.{KeepsRows, KeepsAll}
-use Rattle.store_holdings.specs.Holds.{Keeps}
+use Rattle.store_sql.specs.Readings as looks
+use Rattle.store_sql.specs.Readings.{KeepsRows, KeepsAll}
+use Rattle.store_sql.specs.Readings.{Keeps}
 
 pub map_twice : {X Y Z : Type 0} (f : X → Y) (g : Y → Z) (xs : List X) → map g (map f xs) ≡ map (λ x. g (f x)) xs
 map_twice f g [] = refl

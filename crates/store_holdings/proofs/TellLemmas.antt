@@ -28,7 +28,8 @@ use Rattle.store_rows.proofs.FoundLemmas.{Found, found_in}
 use Rattle.store_rows.proofs.LawfulLemmas.{pos_same}
 use Rattle.store_rows.proofs.OnceLemmas.{catalogue_same}
 use Rattle.store_rows.proofs.OrderLemmas.{IsIn, Same, Below, in_all, in_passed, same_from, same_passed, one_once, ordered_once, numbered_rise, all_with, all_same, ordered_stands}
-use Rattle.store_holdings.specs.Files.{part_at, file_parts, parts_under, edition_parts, all_parts, index_octets}
+use Rattle.store_holdings.specs.Files.{parts_under, edition_parts, all_parts, index_octets}
+use Rattle.store_rows.specs.FileParts.{part_at, file_parts}
 use Rattle.store_holdings.specs.Holds.{AreOrphans}
 use Rattle.store_holdings.specs.Told.{HaveSameFiles}
 use Rattle.store_holdings.proofs.FileLemmas.{passes, part_once, lines_back}

@@ -1,22 +1,12 @@
--- The records of all tables, the parts of files among them.
+-- The records of all tables, with the parts of the files that they stand for; and what a command makes of them.
 use Rattle.std.specs.Prelude.{◌≡◌, ℕ, pos, ℤ, false, not, List, [], ◌∷◌, ◌++◌, map, filter, Option, Some, None}
 use Rattle.std.specs.List.{AllByRecursion}
-use Rattle.store_tables.specs.Records.{Mark, ItemRecord, Member, EditionRecord, EntryRecord, Part, KeptRecord}
+pub use Rattle.store_tables.specs.AllTables.{AllTables}
+use Rattle.store_tables.specs.Records.{Mark, Part}
 use Rattle.store_rows.specs.Tables.{Tables, same_number}
 use Rattle.store_rows.specs.Written.{numbered, mark_record, item_record, kept_record}
 use Rattle.store_rows.specs.After.{Installed, TableChange, is_gone, installed_editions, installed_entries, all_members}
 use Rattle.store_holdings.specs.Files.{all_parts, installed_parts}
-
--- The records of all tables, each list by itself. While one statement of a command is done and the next isn't, the parts are no
--- function of the entries.
-pub record AllTables : Type 0 where
-  pub marks : List Mark
-  pub items : List ItemRecord
-  pub members : List Member
-  pub editions : List EditionRecord
-  pub entries : List EntryRecord
-  pub parts : List Part
-  pub kept : List KeptRecord
 
 -- the records with the parts of their files, behind orphans: parts of no edition
 abbrev pub with_derived : List Part → Tables → AllTables

@@ -1,17 +1,11 @@
 -- The two files of an edition, its index and its text, and the parts that they are kept in: a function of the records.
-use Rattle.std.specs.Prelude.{ℕ, ℤ, pos, negsuc, List, [], ◌++◌, map, flat_map, Option, Some, None}
+use Rattle.std.specs.Prelude.{ℕ, ℤ, pos, List, [], ◌++◌, map, flat_map, Option, Some, None}
 use Rattle.store_tables.specs.Records.{EditionRecord, EntryRecord, Part}
 use Rattle.dict_index.specs.Line.{Line}
-use Rattle.store_rows.specs.Parts.{parts_of}
+use Rattle.store_rows.specs.FileParts.{file_parts, natural}
 use Rattle.store_rows.specs.Stored.{stored_index}
 use Rattle.store_rows.specs.Tables.{Tables, entries_of}
-use Rattle.store_rows.specs.Written.{numbered}
 use Rattle.store_rows.specs.After.{Installed}
-
--- a number that isn't negative; a negative one counts as 0
-abbrev pub natural : ℤ → ℕ
-natural (pos n) = n
-natural (negsuc n) = 0
 
 -- the line of an entry
 abbrev pub entry_line : EntryRecord → Line
@@ -20,13 +14,6 @@ entry_line e = record { headword = e.headword; offset = natural e.start; size = 
 -- the octets of an index: the lines of the entries
 abbrev pub index_octets : List EntryRecord → List ℕ
 index_octets entries = stored_index (map entry_line entries)
-
-abbrev pub part_at : ℤ → ℤ → ℕ → List ℕ → Part
-part_at edition file number octets = record { edition = edition; file = file; number = pos number; octets = octets }
-
--- the parts of a file of an edition, numbered from 0
-abbrev pub file_parts : ℤ → ℤ → List ℕ → List Part
-file_parts edition file octets = numbered (part_at edition file) 0 (parts_of octets)
 
 -- the index of an edition is its file 0, the text its file 1
 abbrev pub parts_under : ℤ → (index text : List ℕ) → List Part

@@ -5,7 +5,7 @@ use Rattle.sqlite.specs.Order.{Row}
 use Rattle.store_tables.specs.Effects.{equals_number, rows_of}
 use Rattle.store_sql.specs.PartRecords.{part_row}
 use Rattle.store_sql.specs.ChosenParts.{is_of_file}
-use Rattle.store_holdings.specs.Files.{file_parts}
+use Rattle.store_rows.specs.FileParts.{file_parts}
 
 -- the rows of a table that have this number, without their rowids
 abbrev pub rows_under : List ℕ → ℕ → Database → List Row

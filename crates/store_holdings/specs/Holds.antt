@@ -1,8 +1,7 @@
 -- Which catalogue a database stands for, under which version.
-use Rattle.std.specs.Prelude.{◌≡◌, ◌<◌, ℕ, false, IsTrue, List, [], map, drop, IsPermutation}
+use Rattle.std.specs.Prelude.{◌≡◌, ◌<◌, ℕ, false, IsTrue, List, []}
 use Rattle.std.specs.List.{AllByRecursion}
 use Rattle.sqlite.specs.Effect.{Database, IsDatabase}
-use Rattle.sqlite.specs.Order.{Row}
 use Rattle.sqlite.specs.Tree.{Trees}
 use Rattle.sqlite.specs.State.{State}
 use Rattle.sqlite.specs.Schema.{Schema}
@@ -10,20 +9,14 @@ use Rattle.store_tables.specs.Records.{Part}
 use Rattle.store_tables.specs.Found.{HasOwn}
 use Rattle.store_tables.specs.Names.{has_prefixed}
 use Rattle.store_tables.specs.Room.{HasRoom, LeavesRoom}
-use Rattle.store_tables.specs.Effects.{HasApartRowids, rows_of}
 use Rattle.store_sql.specs.PartTable.{part}
 use Rattle.dict_catalogue.specs.Steps.{Catalogue}
 use Rattle.store_rows.specs.Versions.{Layout, layout_of, IsVersion}
 use Rattle.store_rows.specs.Tables.{Tables}
 use Rattle.store_rows.specs.Stands.{Stands, has_number}
 use Rattle.store_holdings.specs.AllTables.{with_derived}
-use Rattle.store_holdings.specs.Readings.{KeepsAll, AreShownIn, tables_of}
+use Rattle.store_sql.specs.Readings.{KeepsAll, AreShownIn, tables_of}
 use Rattle.store_holdings.specs.Room.{MayBecomeKnown}
-
--- a table has a row for each of these records and no others, in no order that counts, and no two under one rowid
-pub record Keeps {R : Type 0} (name : List ℕ) (encode : R → Row) (db : Database) (records : List R) : Type 0 where
-  pub rows : IsPermutation (map encode records) (map (drop 1) (rows_of name db))
-  pub apart : HasApartRowids (rows_of name db)
 
 -- the tables of a layout are there, and beside an older one there is room for the table of the parts of files
 pub record HasLayout (layout : Layout) (schema : Schema) : Type 0 where

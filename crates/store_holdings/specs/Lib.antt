@@ -2,7 +2,6 @@ pub mod Files
 pub mod AllTables
 pub mod Told
 pub mod Worked
-pub mod Readings
 pub mod Room
 pub mod Holds
 pub mod HeldTexts

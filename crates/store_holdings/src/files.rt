@@ -17,9 +17,10 @@ ghost use Rattle.store_rows.specs.Taken.{with_edition};
 ghost use Rattle.store_rows.specs.Whole.{with_entries};
 ghost use Rattle.store_rows.specs.Worked.{worked_tables};
 ghost use Rattle.store_holdings.specs.AllTables.{with_derived, as_version, all_after, orphans_after, HasNoneOf, HasNewNumber};
-ghost use Rattle.store_holdings.specs.Files.{all_parts, edition_parts, file_parts, parts_under};
+ghost use Rattle.store_holdings.specs.Files.{all_parts, edition_parts, parts_under};
+ghost use Rattle.store_rows.specs.FileParts.{file_parts};
 ghost use Rattle.store_holdings.specs.Holds.{AreOrphans};
-ghost use Rattle.store_holdings.specs.Readings.{KeepsAll};
+ghost use Rattle.store_sql.specs.Readings.{KeepsAll};
 ghost use Rattle.store_holdings.specs.Told.{HaveSameFiles};
 ghost use Rattle.store_holdings.specs.Worked.{worked_parts};
 

@@ -13,7 +13,8 @@ use Rattle.std.proofs.lemmas.Grind.{flat_map-append}
 use Rattle.dict_text.proofs.AllLemmas.{all_at}
 use Rattle.dict_index.specs.Cuts.{HasNo}
 use Rattle.dict_index.specs.Line.{Line}
-use Rattle.store_holdings.specs.Files.{entry_line, index_octets, natural}
+use Rattle.store_holdings.specs.Files.{entry_line, index_octets}
+use Rattle.store_rows.specs.FileParts.{natural}
 use Rattle.store_rows.specs.Stored.{IsColumn, IsStorable, saying, stored_line}
 use Rattle.store_rows.proofs.TakenLemmas.{nat_same, nat_itself}
 use Rattle.store_sql.specs.declared.records.ReadError.{ReadError}

@@ -17,7 +17,7 @@ use Rattle.store_sql.proofs.PartDefinitionLemmas.{from_store as part_apart}
 use Rattle.store_rows.specs.Tables.{Tables}
 use Rattle.store_rows.specs.Versions.{Parted, known}
 use Rattle.store_holdings.specs.AllTables.{with_derived}
-use Rattle.store_holdings.specs.Readings.{TableReading, KeepsRows, table_name_of, marks, items, members, editions, contents, kept_replies}
+use Rattle.store_sql.specs.Readings.{TableReading, KeepsRows, table_name_of, marks, items, members, editions, contents, kept_replies}
 use Rattle.store_holdings.specs.Holds.{HasPlace, Holds}
 use Rattle.store_holdings.proofs.KeepLemmas.{keeps_added, keeps_none}
 use Rattle.store_holdings.proofs.OrphanLemmas.{no_orphans}

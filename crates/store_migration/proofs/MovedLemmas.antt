@@ -16,7 +16,7 @@ use Rattle.store_rows.specs.Order.{is_of}
 use Rattle.store_rows.proofs.SelectionLemmas.{filter_whole}
 use Rattle.store_holdings.specs.AllTables.{AllTables, with_derived, as_version}
 use Rattle.store_holdings.specs.Files.{all_parts}
-use Rattle.store_holdings.specs.Readings.{TableReading, KeepsAll, KeepsRows, table_name_of, marks, items, members, editions, contents, kept_replies, AreShownIn}
+use Rattle.store_sql.specs.Readings.{TableReading, KeepsAll, KeepsRows, table_name_of, marks, items, members, editions, contents, kept_replies, AreShownIn}
 use Rattle.store_holdings.specs.Holds.{HasLayout, Holds}
 use Rattle.store_holdings.proofs.KeepLemmas.{keeps_added, keeps_none}
 use Rattle.store_holdings.proofs.OneLemmas.{same_version}

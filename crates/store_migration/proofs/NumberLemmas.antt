@@ -14,7 +14,8 @@ use Rattle.store_rows.specs.Tables.{Tables, same_number, editions_numbered, entr
 use Rattle.store_rows.specs.Written.{numbered, edition_record, entry_record}
 use Rattle.store_rows.specs.Stands.{HoldsEdition, HoldsEditions, has_number, Stands}
 use Rattle.store_rows.specs.Order.{is_of}
-use Rattle.store_holdings.specs.Files.{all_parts, edition_parts, file_parts, index_octets, part_at, parts_under}
+use Rattle.store_holdings.specs.Files.{all_parts, edition_parts, index_octets, parts_under}
+use Rattle.store_rows.specs.FileParts.{file_parts, part_at}
 use Rattle.store_migration.proofs.KitLemmas.{EditionRecord as EditionRow, Part}
 
 -- one record has this number, and the entries that have it are those of an edition, in their order

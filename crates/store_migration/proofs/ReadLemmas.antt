@@ -19,11 +19,11 @@ use Rattle.store_sql.specs.HeaderRecords.{header_row}
 use Rattle.store_sql.specs.Encodings.{stored_edition, stored_entry}
 use Rattle.store_sql.specs.Keyed.{entry_without_keys, stored_keyed_entry, stored_old_entry}
 use Rattle.store_sql.specs.Reads.{IsSelection, by_columns}
-use Rattle.store_holdings.specs.Readings.{AreShownIn}
+use Rattle.store_sql.specs.Readings.{AreShownIn}
 use Rattle.store_holdings.proofs.ReadingLemmas.{map_twice}
 use Rattle.dict_text.proofs.AllLemmas.{all_map, all_of}
 use Rattle.std.proofs.lemmas.List.{length-map}
-use Rattle.store_holdings.proofs.ReadLemmas.{sorted_order, one_le, records_order}
+use Rattle.store_sql.proofs.ReadLemmas.{sorted_order, one_le, records_order}
 use Rattle.store_migration.specs.Older.{older_entry_cells, layout_as, looked_at}
 use Rattle.store_migration.specs.MigrationParts.{HasNotOne}
 use Rattle.store_migration.specs.Steps.{AreEntriesOf, IsEditionOf, edition_rows, entry_rows}

@@ -21,8 +21,9 @@ use Rattle.store_rows.proofs.SelectionLemmas.{editions_more, numbers_more}
 use Rattle.store_rows.proofs.TakenLemmas.{same_number_is, same_itself}
 use Rattle.store_holdings.specs.Files.{all_parts, edition_parts, index_octets, parts_under}
 use Rattle.store_holdings.proofs.FileLemmas.{part_once}
-use Rattle.store_holdings.specs.Readings.{AreShownIn, shown_row}
-use Rattle.store_holdings.proofs.OneLemmas.{both, both_where, decode_edition, edition_back, decode_entry, entry_back, decode_shown, shown_back}
+use Rattle.store_sql.specs.Readings.{AreShownIn, shown_row}
+use Rattle.store_holdings.proofs.OneLemmas.{both, both_where}
+use Rattle.store_sql.proofs.DecodeLemmas.{decode_edition, edition_back, decode_entry, entry_back, decode_shown, shown_back}
 use Rattle.store_migration.specs.Older.{older_entry_cells, layout_as, looked_at, form_of}
 use Rattle.store_migration.specs.Steps.{AreEntriesOf, IsEditionOf, IsPartedOne, edition_rows, entry_rows, AreParted}
 use Rattle.store_migration.specs.declared.older.Older.{Older}

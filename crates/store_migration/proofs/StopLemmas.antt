@@ -7,7 +7,7 @@ use Rattle.sqlite.specs.State.{Shows, Fails, IsLive, IsRolledBack}
 use Rattle.dict_catalogue.specs.Steps.{Catalogue, summary_of}
 use Rattle.store_rows.specs.Versions.{known, IsVersion, Layout, layout_of}
 use Rattle.store_holdings.specs.AllTables.{as_version, with_derived}
-use Rattle.store_holdings.specs.Readings.{KeepsAll}
+use Rattle.store_sql.specs.Readings.{KeepsAll}
 use Rattle.store_holdings.proofs.OrphanLemmas.{no_orphans}
 use Rattle.store_rows.proofs.LawfulLemmas.{numbers_as}
 use Rattle.store_holdings.proofs.VersionLemmas.{same_stands}

@@ -8,7 +8,7 @@ use Rattle.store_rows.specs.Tables.{Tables}
 use Rattle.store_rows.specs.Stands.{Stands}
 use Rattle.store_rows.specs.Versions.{known, layout_of}
 use Rattle.store_holdings.specs.AllTables.{with_derived, as_version}
-use Rattle.store_holdings.specs.Readings.{KeepsAll, AreShownIn}
+use Rattle.store_sql.specs.Readings.{KeepsAll, AreShownIn}
 use Rattle.store_holdings.specs.Holds.{Holds, HasLayout, IsLeftAs}
 
 -- Whatever records the tables of an older version keep that stand for a catalogue, those of the known one keep them, with the parts

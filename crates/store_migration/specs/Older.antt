@@ -17,7 +17,7 @@ use Rattle.store_older_sql.specs.declared.entries.EntryForm.TheVariants as form
 use Rattle.store_rows.specs.Versions as layout
 use Rattle.store_rows.specs.Versions.{Layout}
 use Rattle.store_holdings.specs.Holds.{HasLayout}
-use Rattle.store_holdings.specs.Readings.{contents, shown_row}
+use Rattle.store_sql.specs.Readings.{contents, shown_row}
 use Rattle.store_migration.specs.declared.older.Older.{Older}
 use Rattle.store_migration.specs.declared.older.Older.TheVariants.{Plain, Keyed, Shown}
 

@@ -16,7 +16,7 @@ use Rattle.store_older_sql.specs.Entries.{entry_table_of}
 use Rattle.store_rows.specs.Stored.{IsColumn}
 use Rattle.store_rows.specs.Order.{InOrder}
 use Rattle.store_holdings.specs.Files.{index_octets, parts_under}
-use Rattle.store_holdings.specs.Readings.{AreShownIn}
+use Rattle.store_sql.specs.Readings.{AreShownIn}
 use Rattle.store_migration.specs.declared.older.Older.{Older}
 use Rattle.store_migration.specs.Older.{older_entry_cells, form_of, layout_as, looked_at}
 

@@ -3,7 +3,8 @@ use Rattle.std.specs.Prelude.{List}
 use Rattle.store_tables.specs.Records.{EntryRecord, Part}
 use Rattle.dict_index.specs.Line.{Line}
 use Rattle.store_rows.specs.Stored.{saying}
-use Rattle.store_holdings.specs.Files.{natural, parts_under}
+use Rattle.store_holdings.specs.Files.{parts_under}
+use Rattle.store_rows.specs.FileParts.{natural}
 use Rattle.store_migration.specs.declared.files.EditionFiles.{EditionFiles}
 use Rattle.store_migration.specs.declared.lines.LineToWrite.{LineToWrite}
 

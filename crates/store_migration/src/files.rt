@@ -8,7 +8,7 @@ ghost use Rattle.store_sql.specs.PartTable.{part as part_table};
 ghost use Rattle.store_tables.specs.Added.{AreAdded};
 ghost use Rattle.store_tables.specs.Effects.{Has, WhileOpen};
 ghost use Rattle.store_sql.specs.declared.records.ReadError.TheVariants.{Store};
-ghost use Rattle.store_holdings.specs.Files.{part_at};
+ghost use Rattle.store_rows.specs.FileParts.{part_at};
 ghost use Rattle.store_migration.specs.Failing.{MigrationFailsInside};
 ghost use Rattle.store_migration.specs.FailurePlaces.{Putting};
 ghost use Rattle.store_migration.specs.Written.{parts_in};

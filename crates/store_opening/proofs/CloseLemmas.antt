@@ -34,8 +34,9 @@ use Rattle.store_rows.proofs.SelectionLemmas.{filter_whole}
 use Rattle.store_rows.proofs.TakenLemmas.{holds_same, same_number_is, same_itself}
 use Rattle.store_holdings.specs.AllTables.{with_derived}
 use Rattle.store_holdings.specs.Files.{entry_line, index_octets}
-use Rattle.store_holdings.specs.Holds.{Keeps, AreOrphans}
-use Rattle.store_holdings.specs.Readings.{AreShownIn, editions, contents, table_name_of}
+use Rattle.store_holdings.specs.Holds.{AreOrphans}
+use Rattle.store_sql.specs.Readings.{Keeps}
+use Rattle.store_sql.specs.Readings.{AreShownIn, editions, contents, table_name_of}
 use Rattle.store_holdings.proofs.OrphanLemmas.{beside_orphans}
 use Rattle.store_holdings.proofs.ReadingLemmas.{map_twice, editions_kept, replies_kept}
 use Rattle.store_scans.specs.Census.{one_of}

@@ -19,11 +19,12 @@ use Rattle.store_rows.specs.Tables.{Tables, same_number}
 use Rattle.store_rows.specs.Versions.{Layout, Plain, Keyed, Parted}
 use Rattle.store_rows.proofs.OrderLemmas.{order_given, all_same}
 use Rattle.store_holdings.specs.AllTables.{with_derived}
-use Rattle.store_holdings.specs.Readings.{KeepsRows, AreShownIn, contents}
-use Rattle.store_holdings.proofs.ReadLemmas.{sorted_order, one_le}
+use Rattle.store_sql.specs.Readings.{KeepsRows, AreShownIn, contents}
+use Rattle.store_sql.proofs.ReadLemmas.{sorted_order, one_le}
 use Rattle.store_holdings.proofs.ReadingLemmas.{map_twice}
 use Rattle.store_scans.specs.Entries.{looked_behind_rowid, entry_cells}
-use Rattle.store_holdings.proofs.OneLemmas.{decode_entry, decode_shown, entry_back, shown_back, both_where}
+use Rattle.store_holdings.proofs.OneLemmas.{both_where}
+use Rattle.store_sql.proofs.DecodeLemmas.{decode_entry, decode_shown, entry_back, shown_back}
 use Rattle.store_scans.proofs.NumberLemmas.{behind_column, same_int}
 use Rattle.store_scans.proofs.RowidLemmas.{all_of_map}
 

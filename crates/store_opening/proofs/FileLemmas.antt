@@ -14,7 +14,8 @@ use Rattle.store_rows.specs.Stored.{stored_index}
 use Rattle.store_rows.specs.Tables.{Tables, same_number, entries_of, editions_numbered}
 use Rattle.store_rows.specs.Written.{numbered, entry_record}
 use Rattle.store_rows.proofs.SelectionLemmas.{filter_filter}
-use Rattle.store_holdings.specs.Files.{file_parts, edition_parts, all_parts, index_octets}
+use Rattle.store_holdings.specs.Files.{edition_parts, all_parts, index_octets}
+use Rattle.store_rows.specs.FileParts.{file_parts}
 use Rattle.store_holdings.proofs.FileLemmas.{part_once, lines_back}
 use Rattle.store_holdings.proofs.TellLemmas.{index_under, text_under}
 use Rattle.store_holdings.proofs.RowLemmas.{filter_map}

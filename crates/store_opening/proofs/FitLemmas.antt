@@ -15,7 +15,7 @@ use Rattle.store_sql.specs.Reads.{IsListing, by_columns}
 use Rattle.store_sql.specs.RowQueries.{IsFrontOfRows}
 use Rattle.store_sql.specs.Streams.{scan_query}
 use Rattle.store_sql.specs.Streams.Scan.{AllKept}
-use Rattle.store_holdings.proofs.ReadLemmas.{one_le}
+use Rattle.store_sql.proofs.ReadLemmas.{one_le}
 use Rattle.dict_catalogue.specs.Steps.{Catalogue}
 use Rattle.store_rows.specs.Tables.{Tables, same_number, editions_numbered, entries_of}
 use Rattle.store_rows.specs.Written.{item_record}
@@ -31,7 +31,7 @@ use Rattle.store_holdings.proofs.ReadingLemmas.{marks_kept, items_kept, replies_
 use Rattle.store_scans.specs.Takers.{KeptRow}
 use Rattle.store_scans.proofs.CodecLemmas.{Codec, read, read_stored, rows_order, listed_records, mark_codec, item_codec, kept_codec}
 use Rattle.store_holdings.proofs.RowLemmas.{column_behind}
-use Rattle.store_holdings.specs.Holds.{Keeps}
+use Rattle.store_sql.specs.Readings.{Keeps}
 
 -- ---- the entries of one number
 

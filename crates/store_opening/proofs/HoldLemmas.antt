@@ -13,7 +13,7 @@ use Rattle.store_rows.specs.declared.reader.Reader.{Reader}
 use Rattle.store_holdings.specs.Holds.{Holds, HasLayout, HoldsNoneAs}
 use Rattle.store_tables.specs.Effects.{HasApartRowids, rows_of}
 use Rattle.store_holdings.specs.AllTables.{with_derived}
-use Rattle.store_holdings.specs.Readings.{TableReading, KeepsRows, KeepsAll, table_name_of}
+use Rattle.store_sql.specs.Readings.{TableReading, KeepsRows, KeepsAll, table_name_of}
 use Rattle.store_opening.specs.Opens.{HasAll, HasSummary, HasOthersApart, HasRows}
 use Rattle.store_opening.proofs.OrphanLemmas.{are_orphans}
 

@@ -24,7 +24,7 @@ use Rattle.store_rows.specs.Given.{marks_given}
 use Rattle.store_rows.proofs.OrderLemmas.{Same, same_from, one_once}
 use Rattle.store_opening.specs.Marks.{HasMarkTable}
 use Rattle.store_opening.specs.Opens.{HasMark, HasKnownMark, HoldsNone, HoldsNoneAs, IsMarked, mark_of_version}
-use Rattle.store_holdings.proofs.OneLemmas.{decode_mark, mark_back}
+use Rattle.store_sql.proofs.DecodeLemmas.{decode_mark, mark_back}
 use Rattle.store_holdings.proofs.LookupLemmas.{all_contains}
 use Rattle.store_opening.proofs.TableLemmas.{own_mark}
 

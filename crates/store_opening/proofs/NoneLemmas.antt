@@ -24,8 +24,8 @@ use Rattle.store_rows.specs.declared.reader.Reader.{Reader}
 use Rattle.store_rows.proofs.FoundLemmas.{Found}
 use Rattle.store_rows.proofs.OrderLemmas.{Same, same_from, one_once}
 use Rattle.store_holdings.specs.Files.{index_octets}
-use Rattle.store_holdings.specs.Holds.{Keeps}
-use Rattle.store_holdings.specs.Readings.{contents}
+use Rattle.store_sql.specs.Readings.{Keeps}
+use Rattle.store_sql.specs.Readings.{contents}
 use Rattle.store_holdings.proofs.TellLemmas.{storable}
 use Rattle.store_holdings.proofs.ReadingLemmas.{editions_kept, parts_kept}
 use Rattle.store_scans.specs.Entries.{HasWrongEntries, HasWrongRows, HasWrongIndex, next_entries}

@@ -31,7 +31,7 @@ use Rattle.store_holdings.proofs.RowLemmas.{filter_map}
 use Rattle.store_holdings.specs.AllTables.{with_derived}
 use Rattle.store_holdings.specs.Files.{all_parts}
 use Rattle.store_holdings.specs.Holds.{AreOrphans}
-use Rattle.store_holdings.specs.Readings.{editions, contents, table_name_of}
+use Rattle.store_sql.specs.Readings.{editions, contents, table_name_of}
 use Rattle.store_holdings.proofs.ReadingLemmas.{map_twice}
 use Rattle.store_scans.specs.Census.{one_of, is_in_file, is_known_part, may_stand, is_of_contents, may_be_in_contents, HasPartRows}
 use Rattle.store_scans.proofs.CensusLemmas.{known_row}

@@ -30,10 +30,11 @@ use Rattle.store_rows.specs.declared.reader.Reader.{Reader}
 use Rattle.store_rows.proofs.StrayLemmas.{numbers_taken}
 use Rattle.store_rows.proofs.TakenLemmas.{same_number_is, filter_passes_not}
 use Rattle.store_holdings.specs.AllTables.{HasNoneOf}
-use Rattle.store_holdings.specs.Files.{file_parts, edition_parts, parts_under, all_parts, index_octets}
+use Rattle.store_holdings.specs.Files.{edition_parts, parts_under, all_parts, index_octets}
+use Rattle.store_rows.specs.FileParts.{file_parts}
 use Rattle.store_holdings.proofs.FileLemmas.{lines_back, turned}
 use Rattle.store_holdings.proofs.MoreLemmas.{more}
-use Rattle.store_holdings.specs.Readings.{AreShownIn, editions, contents}
+use Rattle.store_sql.specs.Readings.{AreShownIn, editions, contents}
 use Rattle.store_scans.specs.Census.{one_of, is_in_file, is_known_part, is_of_contents}
 use Rattle.store_scans.specs.Entries.{looked_behind_rowid, entry_cells, HasEntries, HasEntryRows, HasIndexFile}
 use Rattle.store_scans.specs.Files.{HasFile}

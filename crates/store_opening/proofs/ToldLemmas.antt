@@ -32,8 +32,8 @@ use Rattle.store_rows.proofs.TakenLemmas.{same_number_is}
 use Rattle.store_rows.proofs.OrderLemmas.{Same, Below, all_passed, all_same, same_from, one_once, ordered_once, numbered_rise}
 use Rattle.store_holdings.specs.AllTables.{with_derived}
 use Rattle.store_holdings.specs.Files.{index_octets}
-use Rattle.store_holdings.specs.Holds.{Keeps}
-use Rattle.store_holdings.specs.Readings.{KeepsAll, AreShownIn, HasReadableRows}
+use Rattle.store_sql.specs.Readings.{Keeps}
+use Rattle.store_sql.specs.Readings.{KeepsAll, AreShownIn, HasReadableRows}
 use Rattle.store_holdings.proofs.OrphanLemmas.{beside_orphans}
 use Rattle.store_holdings.proofs.TellLemmas.{storable}
 use Rattle.store_holdings.proofs.ReadingLemmas.{map_twice, editions_kept, headers_kept, parts_kept}

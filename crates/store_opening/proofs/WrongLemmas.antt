@@ -55,10 +55,12 @@ use Rattle.store_rows.proofs.OrderLemmas.{ordered_stands, Same, same_from, all_s
 use Rattle.store_rows.proofs.StrayLemmas.{numbers_taken}
 use Rattle.store_rows.proofs.TakenLemmas.{same_itself}
 use Rattle.store_holdings.specs.AllTables.{with_derived}
-use Rattle.store_holdings.specs.Files.{part_at, file_parts, parts_under, edition_parts, all_parts, index_octets}
-use Rattle.store_holdings.specs.Holds.{Keeps, AreOrphans}
-use Rattle.store_holdings.specs.Readings.{KeepsRows, KeepsAll, editions, contents, table_name_of}
-use Rattle.store_holdings.proofs.ReadLemmas.{sorted_order, second_le, records_order}
+use Rattle.store_holdings.specs.Files.{parts_under, edition_parts, all_parts, index_octets}
+use Rattle.store_rows.specs.FileParts.{part_at, file_parts}
+use Rattle.store_holdings.specs.Holds.{AreOrphans}
+use Rattle.store_sql.specs.Readings.{Keeps}
+use Rattle.store_sql.specs.Readings.{KeepsRows, KeepsAll, editions, contents, table_name_of}
+use Rattle.store_sql.proofs.ReadLemmas.{sorted_order, second_le, records_order}
 use Rattle.store_rows.proofs.RiseLemmas.{ordered}
 use Rattle.store_holdings.proofs.ReadableLemmas.{held_readable}
 use Rattle.store_holdings.proofs.ReadingLemmas.{map_twice, members_kept, replies_kept, parts_kept}

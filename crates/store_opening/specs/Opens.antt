@@ -31,8 +31,8 @@ use Rattle.store_rows.specs.declared.reader.Reader.{Reader}
 use Rattle.store_holdings.specs.AllTables.{with_derived}
 pub use Rattle.store_holdings.specs.Holds.{HoldsNone, HoldsNoneAs}
 use Rattle.store_holdings.specs.Holds.{AreOrphans}
-pub use Rattle.store_holdings.specs.Readings.{HasReadableRows, HasRowidsApart}
-use Rattle.store_holdings.specs.Readings.{TableReading, KeepsAll, AreShownIn, IsReadable, readings, edition_readings, editions, contents, tables_of, table_name_of}
+pub use Rattle.store_sql.specs.Readings.{HasReadableRows, HasRowidsApart}
+use Rattle.store_sql.specs.Readings.{TableReading, KeepsAll, AreShownIn, IsReadable, readings, edition_readings, editions, contents, tables_of, table_name_of}
 use Rattle.store_scans.specs.Census.{one_of, is_of_contents, may_be_in_contents, AreKnownApart, HasPartRows}
 use Rattle.store_scans.specs.Entries.{HasEntries}
 use Rattle.store_scans.specs.Files.{HasFile, HasNoFile}

@@ -8,7 +8,7 @@ ghost use Rattle.store_sql.specs.HeaderTable.{header};
 ghost use Rattle.store_sql.specs.PartTable.{part};
 ghost use Rattle.store_rows.specs.Versions.{Plain, Keyed, Shown, Parted, layout_of};
 ghost use Rattle.store_holdings.specs.Holds.{HasLayout};
-ghost use Rattle.store_holdings.specs.Readings.{tables_of};
+ghost use Rattle.store_sql.specs.Readings.{tables_of};
 ghost use Rattle.store_opening.specs.Layouts.{layout_in};
 ghost use Rattle.store_opening.specs.Opens.{may_have_orphans};
 

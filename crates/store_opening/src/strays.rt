@@ -6,7 +6,7 @@ ghost use Rattle.store_tables.specs.Effects.{WhileOpen};
 ghost use Rattle.store_rows.specs.Tables.{Tables};
 ghost use Rattle.store_rows.specs.Taken.{HasTaken};
 ghost use Rattle.store_rows.specs.Versions.{layout_of as layout_at};
-ghost use Rattle.store_holdings.specs.Readings.{IsReadable, editions, contents, table_name_of};
+ghost use Rattle.store_sql.specs.Readings.{IsReadable, editions, contents, table_name_of};
 ghost use Rattle.store_scans.specs.Reading.{Same, OnlyReads, IsExcusedReading};
 ghost use Rattle.store_scans.specs.Census.{AreKnownApart, AreNumberedApart, may_be_in_contents};
 ghost use Rattle.store_opening.specs.Layouts.{layout_in};

@@ -12,6 +12,7 @@ pub mod Apart
 pub mod After
 pub mod Worked
 pub mod Parts
+pub mod FileParts
 pub mod Joining
 pub mod Spelling
 pub mod Stored

@@ -1,13 +1,9 @@
 -- The same records in another order, and records in the order of their keys.
-use Rattle.std.specs.Prelude.{◌≡◌, ◌≤ℤ◌, ℤ, Bool, List, [], ◌∷◌, filter, IsPermutation}
-use Rattle.std.specs.List.{AllByRecursion, list_any}
+use Rattle.std.specs.Prelude.{◌≡◌, ◌≤ℤ◌, ℤ, Bool, List, filter, IsPermutation}
+use Rattle.std.specs.List.{list_any}
+pub use Rattle.store_tables.specs.Order.{InOrder}
 use Rattle.store_tables.specs.Records.{EditionRecord, EntryRecord}
 use Rattle.store_rows.specs.Tables.{Tables, same_number}
-
--- each element has the relation to each later one
-abbrev pub InOrder : {X : Type 0} → (X → X → Type 0) → List X → Type 0
-InOrder R [] = Unit {0}
-InOrder R (x ∷ xs) = AllByRecursion (R x) xs × InOrder R xs
 
 -- each table has the same records, in whatever order
 pub record HaveSame (old new : Tables) : Type 0 where

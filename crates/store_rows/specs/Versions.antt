@@ -1,5 +1,6 @@
 -- The versions of the tables, and how the tables of a version are laid out.
 use Rattle.std.specs.Prelude.{ℕ, ◌≤◌, ◌==◌, if◌then◌else◌}
+pub use Rattle.store_tables.specs.Layouts.{Layout, Plain, Keyed, Shown, Parted}
 
 -- the version that is written, and the greatest that is opened
 abbrev pub known : ℕ
@@ -9,14 +10,6 @@ known = 6
 pub record IsVersion (version : ℕ) : Type 0 where
   pub counted : 1 ≤ version
   pub within : version ≤ known
-
--- Plain: entries alone. Keyed: entries with keys, beside words and grams. Shown: the same, and what is shown of each entry.
--- Parted: editions without their texts, and the parts of the two files of each. What is derived of headwords isn't looked at.
-pub data Layout : Type 0 where
-  Plain : Layout
-  Keyed : Layout
-  Shown : Layout
-  Parted : Layout
 
 abbrev pub layout_of : ℕ → Layout
 layout_of version = if version == 1 then Plain else (if version == 4 then Shown else (if version == 5 then Parted else (if version == 6 then Parted else Keyed)))

@@ -20,9 +20,9 @@ use Rattle.store_sql.specs.HeaderRecords.{header_row, stored_header}
 use Rattle.store_sql.specs.declared.header_records.StoredHeader.{StoredHeader}
 use Rattle.store_sql.specs.PartRecords.{part_row, owned_part, stored_part}
 use Rattle.store_sql.specs.declared.part_records.StoredPart.{StoredPart}
-use Rattle.store_holdings.specs.Holds.{Keeps}
-use Rattle.store_holdings.proofs.ReadLemmas.{sorted_order}
-use Rattle.store_holdings.proofs.OneLemmas.{decode_mark, decode_item, decode_member, decode_edition, decode_header, decode_part, decode_kept, mark_back, item_back, member_back, edition_back, header_back, part_back, kept_back}
+use Rattle.store_sql.specs.Readings.{Keeps}
+use Rattle.store_sql.proofs.ReadLemmas.{sorted_order}
+use Rattle.store_sql.proofs.DecodeLemmas.{decode_mark, decode_item, decode_member, decode_edition, decode_header, decode_part, decode_kept, mark_back, item_back, member_back, edition_back, header_back, part_back, kept_back}
 use Rattle.store_rows.specs.Order.{InOrder}
 use Rattle.store_rows.proofs.OrderLemmas.{order_given, all_same}
 use Rattle.store_scans.proofs.RowidLemmas.{all_of_map}

@@ -16,7 +16,7 @@ use Rattle.store_sql.specs.Streams.Scan.{EntriesOf}
 use Rattle.store_rows.specs.Given.{entries_given}
 use Rattle.store_rows.specs.Versions.{Layout, Plain, Keyed, Shown}
 use Rattle.store_rows.specs.declared.reader.Reader.{Reader}
-use Rattle.store_holdings.specs.Readings.{AreShownIn, shown_columns, without_keys}
+use Rattle.store_sql.specs.Readings.{AreShownIn, shown_columns, without_keys}
 use Rattle.store_scans.specs.Cursors.{Cursor, IsScannedToEnd, IsFrontOfScan}
 use Rattle.store_scans.specs.Cursors.Cursor.{InStore, ShownEntriesOf, OldEntriesOf}
 use Rattle.store_scans.specs.Entries.{looked_behind_rowid, entry_cells, HasEntryRows, BeginsWithEntries, IsNoEntryRow, AreTaken, AreNextTaken, TakesEntries, HasWrongEntries}

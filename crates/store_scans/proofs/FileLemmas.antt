@@ -25,8 +25,8 @@ use Rattle.store_rows.specs.Order.{InOrder}
 use Rattle.store_rows.specs.Written.{numbered}
 use Rattle.store_rows.proofs.PartLemmas.{parts_join, parts_regular}
 use Rattle.store_rows.proofs.OrderLemmas.{Below, all_passed, all_same, same_from, ordered_once, numbered_rise}
-use Rattle.store_holdings.specs.Files.{part_at, file_parts}
-use Rattle.store_holdings.proofs.ReadLemmas.{one_le}
+use Rattle.store_rows.specs.FileParts.{part_at, file_parts}
+use Rattle.store_sql.proofs.ReadLemmas.{one_le}
 use Rattle.store_scans.specs.Cursors.Cursor.{PartsOf}
 use Rattle.store_rows.proofs.RiseLemmas.{order_weaker}
 use Rattle.store_scans.specs.Cursors.{IsScannedToEnd}

@@ -21,7 +21,7 @@ use Rattle.store_sql.specs.Streams.Scan.{ByRowid}
 use Rattle.store_scans.specs.Cursors.Cursor.{InStore}
 use Rattle.store_tables.proofs.KitLemmas.{value_cmp_total}
 use Rattle.store_tables.proofs.Callers.{apart_same, differs}
-use Rattle.store_holdings.proofs.ReadLemmas.{sorted_order, one_le, records_order}
+use Rattle.store_sql.proofs.ReadLemmas.{sorted_order, one_le, records_order}
 use Rattle.store_rows.specs.Order.{InOrder}
 use Rattle.store_rows.specs.Apart.{HasTakenRowids}
 use Rattle.store_rows.proofs.ApartLemmas.{rowids_apart}

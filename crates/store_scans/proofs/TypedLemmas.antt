@@ -19,7 +19,7 @@ use Rattle.store_sql.specs.Columns.{HasColumns, entry_columns}
 use Rattle.store_tables.specs.Effects.{Has, rows_of, shown}
 use Rattle.store_sql.specs.Keyed.{keyed_entry_columns, old_entry_columns}
 use Rattle.store_rows.specs.Versions.{Keyed, Shown}
-use Rattle.store_holdings.specs.Readings.{IsReadable, contents, shown_columns, without_keys}
+use Rattle.store_sql.specs.Readings.{IsReadable, contents, shown_columns, without_keys}
 use Rattle.store_scans.proofs.NumberLemmas.{behind_column}
 
 octets : (v : Value) → is_of kind.Blob v ≡ true → is_null v ≡ false → (b : List ℕ) × (v ≡ Blob b)

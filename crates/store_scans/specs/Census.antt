@@ -7,7 +7,7 @@ use Rattle.store_tables.specs.Effects.{HasApartRowids, rows_of, equals_number}
 use Rattle.store_sql.specs.PartRecords.{stored_part}
 use Rattle.store_sql.specs.declared.part_records.StoredPart.{StoredPart}
 use Rattle.store_rows.specs.Versions.{Layout, Plain, Keyed, Shown, Parted}
-use Rattle.store_holdings.specs.Readings.{TableReading, contents}
+use Rattle.store_sql.specs.Readings.{TableReading, contents}
 use Rattle.store_scans.specs.Takers.{takes_rowids, refuses_rowids}
 use Rattle.store_scans.specs.declared.census.Census.{Census}
 use Rattle.store_scans.specs.declared.census.PartCensus.{PartCensus}

@@ -16,7 +16,7 @@ use Rattle.store_rows.specs.Whole.{with_entries, AreOfLast}
 use Rattle.store_rows.specs.Written.{numbered, entry_record}
 use Rattle.store_rows.specs.Versions.{Layout, Plain, Keyed, Shown, Parted}
 use Rattle.store_rows.specs.declared.reader.Reader.{Reader}
-use Rattle.store_holdings.specs.Readings.{AreShownIn, contents, shown_row}
+use Rattle.store_sql.specs.Readings.{AreShownIn, contents, shown_row}
 use Rattle.store_scans.specs.Files.{HasFile, HasNoFile}
 
 -- of a row of `entry`, the columns behind its rowid that are looked at

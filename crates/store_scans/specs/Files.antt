@@ -9,8 +9,8 @@ use Rattle.store_sql.specs.declared.part_records.StoredPart.{StoredPart}
 use Rattle.store_rows.specs.Parts.{parts_of}
 use Rattle.store_rows.specs.Versions.{Parted}
 use Rattle.store_rows.specs.Written.{numbered}
-use Rattle.store_holdings.specs.Files.{file_parts}
-use Rattle.store_holdings.specs.Readings.{IsReadable, contents}
+use Rattle.store_rows.specs.FileParts.{file_parts}
+use Rattle.store_sql.specs.Readings.{IsReadable, contents}
 
 -- the rows of this file of the edition, without their rowids
 abbrev pub file_rows : (number file : ℤ) → Database → List Row

@@ -13,7 +13,7 @@ ghost use Rattle.store_rows.specs.Apart.{HasTakenRowids};
 ghost use Rattle.store_rows.specs.Order.{InOrder, is_of};
 ghost use Rattle.store_rows.specs.Tables.{same_number};
 ghost use Rattle.store_rows.specs.Versions.{Plain, Keyed, Shown};
-ghost use Rattle.store_holdings.specs.Readings.{IsReadable, contents, table_name_of};
+ghost use Rattle.store_sql.specs.Readings.{IsReadable, contents, table_name_of};
 ghost use Rattle.store_scans.specs.Reading.{Same, OnlyReads, IsExcusedReading};
 ghost use Rattle.store_scans.specs.Census.{AreNumberedApart, is_in_file, may_stand, reading_of, TakesCensus, refuses_census, TakesPartCensus, refuses_part_census};
 ghost use Rattle.store_scans.specs.TakerLaws.{no_census, no_part_census};

@@ -7,7 +7,7 @@ ghost use Rattle.store_sql.specs.HeaderTable.{header};
 ghost use Rattle.store_sql.specs.PartTable.{part};
 ghost use Rattle.store_tables.specs.Effects.{Has, WhileOpen};
 ghost use Rattle.store_rows.specs.Versions.{Parted};
-ghost use Rattle.store_holdings.specs.Readings.{IsReadable, whole_editions, editions, contents};
+ghost use Rattle.store_sql.specs.Readings.{IsReadable, whole_editions, editions, contents};
 ghost use Rattle.store_scans.specs.Reading.{Same, OnlyReads, IsExcusedReading};
 ghost use Rattle.store_sql.specs.PartRecords.{part_columns, stored_part};
 ghost use Rattle.store_scans.specs.Census.{AreKnownApart, AreNumberedApart, HasPartRows, TakesPartCensus, may_stand, refuses_part_census};

@@ -5,7 +5,7 @@ ghost use Rattle.store_tables.specs.Records.{shown_as};
 ghost use Rattle.store_tables.specs.Typed.{owned_entry};
 ghost use Rattle.store_rows.specs.Views.{columns_line};
 ghost use Rattle.store_search.specs.Entries.{entry_of};
-ghost use Rattle.store_holdings.specs.Files.{natural};
+ghost use Rattle.store_rows.specs.FileParts.{natural};
 ghost use Rattle.store_scans.specs.Indexing.{indexed_of};
 
 use dict_index::MAX_LINES;

@@ -6,6 +6,8 @@ pub mod NumberTexts
 pub mod ScanLemmas
 pub mod StreamLemmas
 pub mod RowLemmas
+pub mod ReadLemmas
+pub mod DecodeLemmas
 pub mod DeleteEffects
 pub mod DeleteTexts
 pub mod AddFaults

@@ -16,5 +16,6 @@ pub mod PartScans
 pub mod HeaderTable
 pub mod HeaderRecords
 pub mod HeaderTexts
+pub mod Readings
 pub mod Infos
 pub mod HeaderScans

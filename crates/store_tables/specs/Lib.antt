@@ -6,6 +6,9 @@ pub mod Definitions
 pub mod Room
 pub mod OwnNames
 pub mod Records
+pub mod AllTables
+pub mod Layouts
+pub mod Order
 pub mod Typed
 pub mod KeyedRecords
 pub mod Effects

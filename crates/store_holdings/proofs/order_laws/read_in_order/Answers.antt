@@ -9,7 +9,7 @@ use Rattle.store_tables.specs.declared.records.StoredRow.{StoredRow}
 use Rattle.store_tables.specs.declared.records as typed
 use Rattle.store_sql.specs.Encodings.{stored_item, stored_member, stored_entry, stored_kept}
 use Rattle.store_sql.specs.Reads.{by_columns}
-use Rattle.store_holdings.proofs.ReadLemmas.{sorted_order, one_le, second_le, records_order}
+use Rattle.store_sql.proofs.ReadLemmas.{sorted_order, one_le, second_le, records_order}
 use Rattle.store_holdings.proofs.order_laws.read_in_order.Goals as goal
 
 pub returns-clause-items : goal.returns-clause-items

@@ -5,7 +5,7 @@ use Rattle.store_scans.proofs.TakerLemmas.{if_err_then}
 use Rattle.store_opening.specs.Layouts.{layout_in}
 use Rattle.store_opening.specs.Opens.{ArePartRows}
 use Rattle.store_opening.proofs.StepLemmas.{before}
-use Rattle.store_holdings.specs.Readings.{IsReadable, contents}
+use Rattle.store_sql.specs.Readings.{IsReadable, contents}
 use Rattle.store_opening.proofs.strays.test_numbers.Goals as goal
 
 pub returns-in_err-test_records-clause-damaged : goal.returns-in_err-test_records-clause-damaged

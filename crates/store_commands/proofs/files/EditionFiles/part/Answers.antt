@@ -1,5 +1,6 @@
 use Rattle.std.proofs.Common.{◌≡◌, ◌<◌, ◌≤◌, ◌+◌, ◌-◌, pos, length, slice_index_or, [], arith, sym, subst, ◌∙◌}
-use Rattle.store_holdings.specs.Files.{part_at, parts_under}
+use Rattle.store_holdings.specs.Files.{parts_under}
+use Rattle.store_rows.specs.FileParts.{part_at}
 use Rattle.store_rows.specs.Parts.{parts_of}
 use Rattle.store_sql.specs.PartRecords.{lent_part}
 use Rattle.store_holdings.proofs.FilePlaceLemmas.{both_length, first_at, second_at}

@@ -1,7 +1,8 @@
 use Rattle.std.proofs.Common.{◌≡◌, ◌<◌, ◌≤◌, ◌+◌, ◌-◌, pos, length, slice_index_or, [], arith, rules, sym, subst, ◌∙◌}
 use mir.Syntax.{w64}
 use mir.Val.{SFits}
-use Rattle.store_holdings.specs.Files.{part_at, parts_under}
+use Rattle.store_holdings.specs.Files.{parts_under}
+use Rattle.store_rows.specs.FileParts.{part_at}
 use Rattle.store_rows.specs.Parts.{parts_of}
 use Rattle.store_holdings.proofs.FilePlaceLemmas.{both_length, first_at, second_at}
 use Rattle.store_migration.proofs.KitLemmas.{signed_back, lent_part}

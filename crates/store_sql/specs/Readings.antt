@@ -5,6 +5,8 @@ use Rattle.sqlite.specs.declared.types.Value.TheVariants.{Text as Letters}
 use Rattle.sqlite.specs.Order.{Row}
 use Rattle.sqlite.specs.Effect.{Database}
 use Rattle.sqlite.specs.Table.{Table}
+use Rattle.store_tables.specs.AllTables.{AllTables}
+use Rattle.store_tables.specs.Layouts.{Layout, Plain, Keyed, Shown, Parted}
 use Rattle.store_tables.specs.Records.{EntryRecord, ShowsHeadword, header_of}
 use Rattle.store_tables.specs.Tables.{mark, item, member, edition, entry, kept}
 use Rattle.store_tables.specs.Keyed as keyed
@@ -15,8 +17,6 @@ use Rattle.store_sql.specs.HeaderTable.{header}
 use Rattle.store_sql.specs.HeaderRecords.{header_row, header_columns}
 use Rattle.store_sql.specs.PartTable.{part}
 use Rattle.store_sql.specs.PartRecords.{part_row, part_columns}
-use Rattle.store_rows.specs.Versions.{Layout, Plain, Keyed, Shown, Parted}
-use Rattle.store_holdings.specs.AllTables.{AllTables}
 
 -- a table, what its columns hold, those of its columns that are looked at, the rowid first, and the rows that it is to have
 pub record TableReading : Type 0 where
@@ -118,3 +118,8 @@ HasReadableRows layout db = AllByRecursion (λ r. IsReadable r db) (readings lay
 -- in no table do two rows have one rowid
 abbrev pub HasRowidsApart : Layout → Database → Type 0
 HasRowidsApart layout db = AllByRecursion (λ r. HasApartRowids (rows_of (table_name_of r) db)) (readings layout)
+
+-- a table has a row for each of these records and no others, in no order that counts, and no two under one rowid
+pub record Keeps {R : Type 0} (name : List ℕ) (encode : R → Row) (db : Database) (records : List R) : Type 0 where
+  pub rows : IsPermutation (map encode records) (map (drop 1) (rows_of name db))
+  pub apart : HasApartRowids (rows_of name db)

@@ -15,7 +15,7 @@ use Rattle.sqlite.specs.Order.{Row, column, value_cmp}
 use Rattle.sqlite.specs.declared.types.Value.TheVariants.{Int, Text}
 use Rattle.sqlite_value.proofs.OrderLemmas.{value_cmp_total, value_cmp-Int, then-Equal}
 use Rattle.store_sql.specs.Reads.{by_columns}
-use Rattle.store_rows.specs.Order.{InOrder}
+use Rattle.store_tables.specs.Order.{InOrder}
 
 columns_total : (columns : List ℕ) → IsTotalOrder (by_columns columns)
 columns_total [] = on_total (λ (r : Row). 0) nat_cmp_total
