@@ -16,7 +16,7 @@ PROOFS = dict(
     dict_text=0.6, http_request=0.9, dict_match=0.9, store_derived=0.8, dict_proto=1.2, store_tables=2.4, dict_index=1.3, net_outlet=0.9,
     store_places=1.2, dict_reading=1.0, dict_catalogue=1.6, store_pieces=1.4, dict_desk=1.9, store_sql=3.7, store_rows=2.2, store_older_sql=1.4,
     store_search=1.8, dict_session=2.1, http_service=2.6, store_holdings=2.1, net_hub=1.5, store_scans=2.8, store_commands=4.3, store_migration=2.8,
-    store_opening=3.0, net_connection=1.3, dict_fixtures=0.9, app_words=1.2, net_driver=1.5, store_fixtures=2.5, store_desk=7.9, net_serving=0.6,
+    store_opening=3.0, net_connection=1.3, dict_fixtures=1.0, app_words=3.0, net_driver=2.6, store_fixtures=2.5, store_desk=7.9, net_serving=0.6,
     app_commands=1.0, dictcat_lib=5.2, dictcat=4.0,
 )
 TESTS = dict(
